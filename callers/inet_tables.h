@@ -83,6 +83,7 @@ struct inet_sight {
     uint32_t kind;   /* INET_NONE and so on */
     uint32_t worker; /* whose socket it is */
     uint64_t socket; /* its number, also after it was closed */
+    uint32_t mark;   /* what its worker's call gave with it; 0 of a list's socket */
 };
 
 struct inet_item {
@@ -183,20 +184,22 @@ int inet_list_items(struct inet_list *list, struct inet_item *items, size_t room
  * up the number that it gives, or the place where a search begins; and of a reap a first part is done.
  * ENOBUFS: one of the worker's last full_for calls was ENFILE, and this one, which would take a slot, did not look for
  * one (listen, connect, accept, syn, ack). Nothing else was tested, and nothing has changed.
+ * A socket's mark is any number, such as the place of the caller's object for it, and lookups answer it: a request's,
+ * and then that of the socket that ack makes of it; a TIME_WAIT has its socket's.
  * EOVERFLOW: a worker makes 2^56 - 2 sockets, and has 2^48 entries for bind buckets and 2^48 numbers of the clock, of
  * which a connection that is accepted, closed and reaped takes 3 and 8. The last 2^32 of both are kept for close, drop,
  * at and reap. */
-int inet_worker_socket(struct inet_worker *worker, uint8_t net, uint32_t uid, uint16_t dev, uint32_t flags, uint64_t
-                       *socket);
+int inet_worker_socket(struct inet_worker *worker, uint8_t net, uint32_t uid, uint16_t dev, uint32_t flags,
+                       uint32_t mark, uint64_t *socket);
 int inet_worker_bind(struct inet_worker *worker, uint64_t socket, uint32_t addr, uint16_t port, uint16_t *bound);
 int inet_worker_listen(struct inet_worker *worker, uint64_t socket, uint16_t *bound);
 int inet_worker_connect(struct inet_worker *worker, uint64_t socket, uint32_t from, uint32_t to_addr, uint16_t to_port,
                         uint32_t *addr, uint16_t *port);
-int inet_worker_accept(struct inet_worker *worker, uint64_t listener, uint32_t from_addr, uint16_t from_port, uint32_t
-                       at_addr, uint16_t at_port, uint64_t *socket);
-int inet_worker_syn(struct inet_worker *worker, uint64_t listener, uint32_t from_addr, uint16_t from_port, uint32_t
-                    at_addr, uint16_t at_port, uint64_t *request);
-int inet_worker_ack(struct inet_worker *worker, uint64_t request, uint64_t *socket);
+int inet_worker_accept(struct inet_worker *worker, uint64_t listener, uint32_t from_addr, uint16_t from_port,
+                       uint32_t at_addr, uint16_t at_port, uint32_t mark, uint64_t *socket);
+int inet_worker_syn(struct inet_worker *worker, uint64_t listener, uint32_t from_addr, uint16_t from_port,
+                    uint32_t at_addr, uint16_t at_port, uint32_t mark, uint64_t *request);
+int inet_worker_ack(struct inet_worker *worker, uint64_t request, uint32_t mark, uint64_t *socket);
 /* It leaves a TIME_WAIT only while the worker has fewer than most_waits: of those that it left, all that it has not
  * reaped. */
 int inet_worker_close(struct inet_worker *worker, uint64_t socket, bool *waits);
@@ -215,12 +218,16 @@ int inet_worker_next_over(struct inet_worker *worker, uint64_t *moment);
 /* The clock as its last call left it: each change that its calls made has ended below that number. */
 int inet_worker_now(struct inet_worker *worker, uint64_t *clock);
 
-/* Which socket of the looker's tables takes a packet, by the number of its worker and the one that the worker's call
- * gave. Takes no memory, locks nothing and waits for nobody: what it finds stood hashed at some time between the call's
+/* Which socket of the looker's tables takes a packet, by the number of its worker, the one that the worker's call gave,
+ * and the mark that it got there. Takes no memory, locks nothing and waits for nobody: what it finds stood hashed at some time between the call's
  * beginning and its end, and nothing that matches better did so all the time. EAGAIN: others changed a chain at each of
  * 16 passes through it, and the call can be made again; or the lookup began before the clock was at `after` (0: any),
  * which none does that begins once inet_worker_now has answered that number. So what that worker's calls had hashed by
- * then stood throughout, unless its unhash began meanwhile. A namespace above 15 is EINVAL. */
+ * then stood throughout, unless its unhash began meanwhile. A namespace above 15 is EINVAL.
+ *
+ * A caller's object that a mark leads to may be freed, or its place given to another, once its socket isn't hashed any
+ * more, by close and the reap of its TIME_WAIT, or by drop, and then each looker's thread has come from no lookup, or
+ * from one that began later, and has let go of all that earlier ones found: a quiescent point of each. */
 int inet_looker_look(struct inet_looker *looker, uint32_t src, uint16_t sport, uint32_t dst, uint16_t dport,
                      uint16_t dev, uint8_t net, uint64_t after, struct inet_sight *sight);
 /* A lookup for each packet, told at its place. INET_AGAIN: that lookup would be EAGAIN. EINVAL: there aren't as many

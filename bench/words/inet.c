@@ -62,7 +62,7 @@ static struct worker *table_looker(int number)
 
 static int table_socket(struct worker *w, uint32_t flags, uint64_t *s)
 {
-    return inet_worker_socket(&w->worker, 0, 0, 0, flags, s);
+    return inet_worker_socket(&w->worker, 0, 0, 0, flags, 0, s);
 }
 
 static int table_bind(struct worker *w, uint64_t s, uint32_t addr, uint16_t port)
@@ -87,7 +87,7 @@ static int table_connect(struct worker *w, uint64_t s, uint32_t from, uint32_t t
 static int table_accept(struct worker *w, uint64_t l, uint32_t from, uint16_t from_port, uint32_t at, uint16_t at_port,
                         uint64_t *s)
 {
-    return inet_worker_accept(&w->worker, l, from, from_port, at, at_port, s);
+    return inet_worker_accept(&w->worker, l, from, from_port, at, at_port, 0, s);
 }
 
 static int table_close(struct worker *w, uint64_t s)

@@ -70,12 +70,12 @@ int main(void) {
     must(inet_tables_new(&tables, &sizes, 1), "new");
     must(inet_tables_worker(&tables, &limits, &worker, &number), "worker");
     must(inet_tables_looker(&tables, &looker), "looker");
-    must(inet_worker_socket(&worker, 0, 0, 0, 0, &listener), "socket");
+    must(inet_worker_socket(&worker, 0, 0, 0, 0, 0, &listener), "socket");
     tell(&worker, listener);
     must(inet_worker_bind(&worker, listener, PROXY, 80, &port), "bind");
     tell(&worker, listener);
     must(inet_worker_listen(&worker, listener, &port), "listen");
-    must(inet_worker_accept(&worker, listener, CLIENT, 4000, PROXY, 80, &socket), "accept");
+    must(inet_worker_accept(&worker, listener, CLIENT, 4000, PROXY, 80, 0, &socket), "accept");
     tell(&worker, listener);
     tell(&worker, socket);
     must(inet_worker_now(&worker, &clock), "now");

@@ -63,7 +63,7 @@ static void open_connection(struct actor *me, _Atomic uint64_t *mine, uint16_t f
     uint64_t socket = 0;
     atomic_store(mine, entry(COMES, socket_of(atomic_load(mine))));
     while (again(inet_worker_accept(&me->worker, me->listener, CLIENTS + me->number, from_port, PROXY,
-                                    (uint16_t)(8000 + me->number), &socket), "accept")) {}
+                                    (uint16_t)(8000 + me->number), 0, &socket), "accept")) {}
     atomic_store(mine, entry(STANDS, socket));
     me->opened++;
 }

@@ -48,7 +48,7 @@ static inline uint64_t memory(void) {
 static inline uint64_t open_listener(struct inet_worker *worker, uint16_t port) {
     uint64_t listener;
     uint16_t bound;
-    must(inet_worker_socket(worker, 0, 0, 0, INET_REUSEADDR, &listener), "socket");
+    must(inet_worker_socket(worker, 0, 0, 0, INET_REUSEADDR, 0, &listener), "socket");
     must(inet_worker_bind(worker, listener, 0, port, &bound), "bind");
     must(inet_worker_listen(worker, listener, &bound), "listen");
     return listener;

@@ -37,7 +37,7 @@ static void open_tables(struct tables *t, uint32_t slots) {
 static int accept_one(struct tables *t, uint64_t *socket, struct timing *timing) {
     uint64_t begun = nanoseconds();
     int error = inet_worker_accept(&t->worker, t->listener, CLIENTS + (uint32_t)(t->made / CLIENT_PORTS),
-                                   (uint16_t)(1024 + t->made % CLIENT_PORTS), PROXY, PORT, socket);
+                                   (uint16_t)(1024 + t->made % CLIENT_PORTS), PROXY, PORT, 0, socket);
     uint64_t took = nanoseconds() - begun;
     timing->calls++;
     timing->all += took;

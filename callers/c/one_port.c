@@ -36,7 +36,7 @@ static void count(struct seat *me, int error) {
 
 static int accept_one(struct seat *me, uint64_t *socket) {
     int error = inet_worker_accept(&me->worker, me->listener, CLIENTS + me->number,
-                                   (uint16_t)(1024 + me->made % CLIENT_PORTS), PROXY, me->port, socket);
+                                   (uint16_t)(1024 + me->made % CLIENT_PORTS), PROXY, me->port, 0, socket);
     count(me, error);
     return error;
 }
@@ -65,7 +65,7 @@ static void open_seat(struct inet_tables *tables, struct seat *seat, bool shared
     must(inet_tables_worker(tables, &LIMITS, &seat->worker, &seat->number), "worker");
     if (!shared)
         seat->port = (uint16_t)(PORT + seat->number);
-    must(inet_worker_socket(&seat->worker, 0, 0, 0, INET_REUSEPORT, &seat->listener), "socket");
+    must(inet_worker_socket(&seat->worker, 0, 0, 0, INET_REUSEPORT, 0, &seat->listener), "socket");
     must(inet_worker_bind(&seat->worker, seat->listener, 0, seat->port, &bound), "bind");
     must(inet_worker_listen(&seat->worker, seat->listener, &bound), "listen");
 }

@@ -269,7 +269,7 @@ static void tags(void) {
 static uint64_t worker_listener(struct inet_worker *worker, uint8_t net, uint16_t dev) {
     uint64_t socket;
     uint16_t bound;
-    must(inet_worker_socket(worker, net, 0, dev, 0, &socket), "socket");
+    must(inet_worker_socket(worker, net, 0, dev, 0, 0, &socket), "socket");
     must(inet_worker_bind(worker, socket, HOST, 80, &bound), "bind");
     must(inet_worker_listen(worker, socket, &bound), "listen");
     return socket;
@@ -289,13 +289,13 @@ static void limits(void) {
     must(inet_tables_worker(&tables, &limits, &worker, &number), "worker");
     uint64_t web = worker_listener(&worker, 0, 0);
     for (uint16_t i = 0; i < 2; i++)
-        must(inet_worker_accept(&worker, web, PEER, (uint16_t)(1000 + i), HOST, 80, &closed[i]), "accept");
+        must(inet_worker_accept(&worker, web, PEER, (uint16_t)(1000 + i), HOST, 80, 0, &closed[i]), "accept");
     for (int i = 0; i < 2; i++)
         must(inet_worker_close(&worker, closed[i], &waits[i]), "close");
     printf("one TIME_WAIT at most, two closed: %d and %d\n", waits[0], waits[1]);
     printf("four slots, and two calls for which they stay full:");
     for (uint16_t port = 1002; port < 1008; port++)
-        printf(" %s", name(inet_worker_accept(&worker, web, PEER, port, HOST, 80, &socket)));
+        printf(" %s", name(inet_worker_accept(&worker, web, PEER, port, HOST, 80, 0, &socket)));
     printf("\n");
     inet_worker_free(&worker);
     inet_tables_free(&tables);

@@ -81,7 +81,7 @@ static struct object *object_of(uint64_t socket) {
 static void listen_at(uint16_t port) {
     uint64_t listener;
     uint16_t bound;
-    must(inet_worker_socket(&worker, 0, 0, 0, INET_REUSEADDR, &listener), "socket");
+    must(inet_worker_socket(&worker, 0, 0, 0, INET_REUSEADDR, 0, &listener), "socket");
     must(inet_worker_bind(&worker, listener, 0, port, &bound), "bind");
     must(inet_worker_listen(&worker, listener, &bound), "listen");
 }
@@ -91,7 +91,7 @@ static const char *begin(const struct segment *it, uint64_t listener) {
     uint64_t request;
     if ((it->flags & (SYN | ACK | RST | FIN)) != SYN)
         return "a listener, but is no SYN";
-    must(inet_worker_syn(&worker, listener, it->from, it->from_port, it->to, it->to_port, &request), "syn");
+    must(inet_worker_syn(&worker, listener, it->from, it->from_port, it->to, it->to_port, 0, &request), "syn");
     *object_of(request) = (struct object){it->from, it->from_port, it->to_port, 0, 0, NULL};
     return "a listener, and begins a handshake";
 }
@@ -105,7 +105,7 @@ static const char *go_on(const struct segment *it, uint64_t request) {
     }
     if (!(it->flags & ACK))
         return "a request";
-    must(inet_worker_ack(&worker, request, &socket), "ack");
+    must(inet_worker_ack(&worker, request, 0, &socket), "ack");
     *object_of(socket) = objects[request];
     memset(&objects[request], 0, sizeof objects[request]);
     return "a request, and ends the handshake";

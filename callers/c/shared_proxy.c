@@ -49,7 +49,7 @@ struct accepter { struct inet_worker worker; uint64_t listener; uint32_t number,
 
 static void open_listener(struct accepter *me) {
     uint16_t bound;
-    must(inet_worker_socket(&me->worker, 0, 0, 0, INET_REUSEADDR, &me->listener), "socket");
+    must(inet_worker_socket(&me->worker, 0, 0, 0, INET_REUSEADDR, 0, &me->listener), "socket");
     must(inet_worker_bind(&me->worker, me->listener, PROXY, port_of(me->number), &bound), "bind");
     must(inet_worker_listen(&me->worker, me->listener, &bound), "listen");
 }
@@ -60,7 +60,7 @@ static uint64_t accept_from(struct accepter *me, uint16_t from_port) {
     int error;
     do
         error = inet_worker_accept(&me->worker, me->listener, CLIENTS + me->number, from_port, PROXY,
-                                   port_of(me->number), &socket);
+                                   port_of(me->number), 0, &socket);
     while (again(error));
     must(error, "accept");
     return socket;
@@ -113,7 +113,7 @@ static void refusals(struct accepter *two) {
     uint64_t socket;
     uint16_t bound;
     bool waits;
-    must(inet_worker_socket(&two->worker, 0, 0, 0, 0, &socket), "socket");
+    must(inet_worker_socket(&two->worker, 0, 0, 0, 0, 0, &socket), "socket");
     printf("a port that another worker has: %s\n",
            name(inet_worker_bind(&two->worker, socket, 0, port_of(1), &bound)));
     must(inet_worker_drop(&two->worker, socket), "drop");
@@ -131,12 +131,12 @@ static void misused(struct inet_tables *tables, struct accepter *accepter) {
 static void shake_hands(struct accepter *me, struct looker *looker) {
     uint64_t request, socket;
     must(inet_worker_syn(&me->worker, me->listener, CLIENTS + me->number, 1023, PROXY,
-                         port_of(me->number), &request),
+                         port_of(me->number), 0, &request),
          "syn");
     struct inet_sight sight = look(looker, 1023);
     printf("a packet of a handshake: %s\n",
            sight.kind == INET_REQUEST && sight.socket == request ? "the request" : "another socket");
-    must(inet_worker_ack(&me->worker, request, &socket), "ack");
+    must(inet_worker_ack(&me->worker, request, 0, &socket), "ack");
     sight = look(looker, 1023);
     printf("a packet after it: %s\n",
            sight.kind == INET_CONNECTED && sight.socket == socket ? "the connection" : "another socket");

@@ -40,7 +40,7 @@ static void accept_all(struct tables *t, uint32_t connections) {
         listeners[i] = open_listener(&t->worker, (uint16_t)(8000 + i));
     for (uint32_t i = 0; i < connections; i++) {
         struct ends e = ends_of(i);
-        must(inet_worker_accept(&t->worker, listeners[i % LISTENERS], e.from, e.from_port, PROXY, e.port,
+        must(inet_worker_accept(&t->worker, listeners[i % LISTENERS], e.from, e.from_port, PROXY, e.port, 0,
                                 &socket),
              "accept");
     }

@@ -24,7 +24,7 @@ static void take_worker(struct inet_tables *tables, struct seat *seat) {
         must(inet_worker_drop(&seat->worker, left[n]), "drop");
     else
         listeners[n] = open_listener(&seat->worker, (uint16_t)(8000 + n));
-    must(inet_worker_accept(&seat->worker, listeners[n], CLIENTS + n, 1024, PROXY, (uint16_t)(8000 + n),
+    must(inet_worker_accept(&seat->worker, listeners[n], CLIENTS + n, 1024, PROXY, (uint16_t)(8000 + n), 0,
                             &seat->socket),
          "accept");
 }

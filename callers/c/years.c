@@ -47,7 +47,7 @@ static void turn_over(struct actor *me) {
     if (me->made >= OPEN)
         while (count(me, inet_worker_drop(&me->worker, me->sockets[at])) == EAGAIN) {}
     while (count(me, inet_worker_accept(&me->worker, me->listener, CLIENTS + me->number, from_port, PROXY,
-                                        (uint16_t)(8000 + me->number), &me->sockets[at])) == EAGAIN) {}
+                                        (uint16_t)(8000 + me->number), 0, &me->sockets[at])) == EAGAIN) {}
     me->made++;
 }
 

@@ -2,7 +2,7 @@
 //! what ../../c/options.c prints of the same.
 
 use inet_tables::{
-    Errno, Item, Limits, List, Looker, Options, Packet, Reserved, Sight, Sizes, Socket, Tables, Worker,
+    Errno, Found, Item, Limits, List, Looker, Options, Packet, Reserved, Sight, Sizes, Socket, Tables, Worker,
 };
 use std::net::{Ipv4Addr, SocketAddrV4};
 
@@ -222,7 +222,7 @@ fn tags() -> Result<(), Errno> {
 }
 
 fn worker_listener(worker: &mut Worker, options: Options) -> Result<Socket, Errno> {
-    let socket = worker.socket(options)?;
+    let socket = worker.socket(options, 0)?;
     worker.bind(socket, end(HOST, 80))?;
     worker.listen(socket)?;
     Ok(socket)
@@ -233,13 +233,13 @@ fn limits() -> Result<(), Errno> {
     let mut tables = Tables::new(&Sizes { slots: 4, ..Sizes::default() })?;
     let mut worker = tables.worker(Limits { tries: 5, most_waits: 1, full_for: 2 })?;
     let web = worker_listener(&mut worker, Options::default())?;
-    let one = worker.accept(web, end(PEER, 1000), end(HOST, 80))?;
-    let two = worker.accept(web, end(PEER, 1001), end(HOST, 80))?;
+    let one = worker.accept(web, end(PEER, 1000), end(HOST, 80), 0)?;
+    let two = worker.accept(web, end(PEER, 1001), end(HOST, 80), 0)?;
     let (first, second) = (worker.close(one)?, worker.close(two)?);
     println!("one TIME_WAIT at most, two closed: {} and {}", u8::from(first), u8::from(second));
     print!("four slots, and two calls for which they stay full:");
     for port in 1002..1008 {
-        print!(" {}", name(worker.accept(web, end(PEER, port), end(HOST, 80))));
+        print!(" {}", name(worker.accept(web, end(PEER, port), end(HOST, 80), 0)));
     }
     println!();
     Ok(())
@@ -248,7 +248,7 @@ fn limits() -> Result<(), Errno> {
 /// By a lookup, and by one of a batch.
 fn see_shared(looker: &mut Looker, dev: u16, net: u8) -> Result<(), Errno> {
     let packet = Packet { from: end(PEER, 1000), to: end(HOST, 80), dev, net };
-    let number = |sight: Option<Sight>| sight.map_or(0, |sight| kind(sight).0);
+    let number = |found: Option<Found>| found.map_or(0, |found| kind(found.sight).0);
     let one = number(looker.look(packet.from, packet.to, dev, net)?);
     let many = number(looker.look_all(&[packet], 0)?.remove(0)?);
     println!("a packet of device {dev} in namespace {net}: kind {one}, and of a batch {many}");

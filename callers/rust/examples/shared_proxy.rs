@@ -2,7 +2,7 @@
 //! each by a worker of its own, and two look packets up meanwhile, each by a looker of its own. No lock is round any
 //! call. What it prints is the same whichever thread comes first, and what ../../c/shared_proxy.c prints of the same.
 
-use inet_tables::{Errno, Limits, Looker, Options, Sight, Sizes, Socket, Tables, Worker};
+use inet_tables::{Errno, Limits, Looker, Options, Packet, Sight, Sizes, Socket, Tables, Worker};
 use std::net::{Ipv4Addr, SocketAddrV4};
 use std::thread;
 
@@ -30,7 +30,7 @@ fn patiently<T>(mut call: impl FnMut() -> Result<T, Errno>) -> Result<T, Errno> 
 }
 
 fn open_listener(worker: &mut Worker) -> Result<Socket, Errno> {
-    let socket = worker.socket(Options { reuseaddr: true, ..Options::default() })?;
+    let socket = worker.socket(Options { reuseaddr: true, ..Options::default() }, 0)?;
     worker.bind(socket, at(worker.number()))?;
     worker.listen(socket)?;
     Ok(socket)
@@ -41,7 +41,7 @@ fn accept_all(worker: &mut Worker, listener: Socket) -> Result<(u32, u32), Errno
     let (mut closed, mut waiting) = (0, 0);
     for i in 0..CONNECTIONS {
         let from = client(listener.worker, 1024 + i);
-        let socket = patiently(|| worker.accept(listener, from, at(listener.worker)))?;
+        let socket = patiently(|| worker.accept(listener, from, at(listener.worker), 0))?;
         waiting += u32::from(patiently(|| worker.close(socket))?);
         closed += 1;
     }
@@ -49,7 +49,8 @@ fn accept_all(worker: &mut Worker, listener: Socket) -> Result<(u32, u32), Errno
 }
 
 fn look(looker: &mut Looker, worker: u32, port: u16) -> Result<Option<Sight>, Errno> {
-    patiently(|| looker.look(client(worker, port), at(worker), 0, 0))
+    let found = patiently(|| looker.look(client(worker, port), at(worker), 0, 0))?;
+    Ok(found.map(|found| found.sight))
 }
 
 /// How many packets found a socket of that worker: the connection, its TIME_WAIT or the listener.
@@ -67,7 +68,7 @@ fn name(errno: Errno) -> &'static str {
 }
 
 fn refusals(one: Socket, two: &mut Worker) -> Result<(), Errno> {
-    let socket = two.socket(Options::default())?;
+    let socket = two.socket(Options::default(), 0)?;
     let taken = two.bind(socket, SocketAddrV4::new(Ipv4Addr::UNSPECIFIED, at(one.worker).port()));
     println!("a port that another worker has: {}", taken.map_or_else(name, |_| "bound"));
     two.drop_socket(socket)?;
@@ -78,11 +79,14 @@ fn refusals(one: Socket, two: &mut Worker) -> Result<(), Errno> {
 /// A handshake in two steps: its request takes the packets while it lasts, and then the connection.
 fn shake_hands(worker: &mut Worker, listener: Socket, looker: &mut Looker) -> Result<(), Errno> {
     let number = worker.number();
-    let request = worker.syn(listener, client(number, 1023), at(number))?;
+    let request = worker.syn(listener, client(number, 1023), at(number), 0)?;
     let meanwhile = look(looker, number, 1023)? == Some(Sight::Request(request));
     println!("a packet of a handshake: {}", if meanwhile { "the request" } else { "another socket" });
-    let socket = worker.ack(request)?;
-    let after = look(looker, number, 1023)? == Some(Sight::Connected(socket));
+    let socket = worker.ack(request, 0)?;
+    let packet = Packet { from: client(number, 1023), to: at(number), dev: 0, net: 0 };
+    let clock = worker.now()?;
+    let found = patiently(|| looker.look_after(&packet, clock))?;
+    let after = found.is_some_and(|found| found.sight == Sight::Connected(socket));
     println!("a packet after it: {}", if after { "the connection" } else { "another socket" });
     worker.drop_socket(socket)
 }
@@ -90,8 +94,8 @@ fn shake_hands(worker: &mut Worker, listener: Socket, looker: &mut Looker) -> Re
 /// The next holder of a worker that was given back closes what its last holder left open, but the listener.
 fn hand_over(tables: &mut Tables, mut worker: Worker, listener: Socket) -> Result<Worker, Errno> {
     let number = worker.number();
-    worker.accept(listener, client(number, 1021), at(number))?;
-    worker.accept(listener, client(number, 1022), at(number))?;
+    worker.accept(listener, client(number, 1021), at(number), 0)?;
+    worker.accept(listener, client(number, 1022), at(number), 0)?;
     tables.take_back(worker).map_err(|(errno, _)| errno)?;
     let mut worker = tables.worker(LIMITS)?;
     let (mut dropped, mut last) = (0, listener.number);

@@ -213,6 +213,15 @@ impl Sight {
     }
 }
 
+/// What a looker found: a socket of shared tables, and the mark that it was given.
+#[derive(Clone, Copy, Debug, PartialEq, Eq)]
+pub struct Found {
+    /// What takes the packet.
+    pub sight: Sight,
+    /// Its mark, such as the place of the caller's object for it.
+    pub mark: u32,
+}
+
 /// A socket of a list.
 #[derive(Clone, Copy, Debug, PartialEq, Eq)]
 pub struct Item {

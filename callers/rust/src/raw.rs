@@ -1,6 +1,6 @@
 //! The handles, the library's exports, and each of its calls: all that is unsafe in this crate but ../src/heap.rs.
 
-use crate::{Errno, Item, Left, Limits, Open, Options, Packet, Sight, Sizes, Socket, State};
+use crate::{Errno, Found, Item, Left, Limits, Open, Options, Packet, Sight, Sizes, Socket, State};
 use alloc::vec;
 use alloc::vec::Vec;
 use core::ffi::c_void;
@@ -58,6 +58,7 @@ struct RawSight {
     kind: u32,
     worker: u32,
     socket: u64,
+    mark: u32,
 }
 
 #[repr(C)]
@@ -135,7 +136,15 @@ unsafe extern "C" {
         sight: &mut RawSight,
     ) -> i32;
     fn inet_list_items(list: &mut List, items: *mut RawItem, room: usize, count: &mut u64) -> i32;
-    fn inet_worker_socket(worker: &mut Worker, net: u8, uid: u32, dev: u16, flags: u32, socket: &mut u64) -> i32;
+    fn inet_worker_socket(
+        worker: &mut Worker,
+        net: u8,
+        uid: u32,
+        dev: u16,
+        flags: u32,
+        mark: u32,
+        socket: &mut u64,
+    ) -> i32;
     fn inet_worker_bind(worker: &mut Worker, socket: u64, addr: u32, port: u16, bound: &mut u16) -> i32;
     fn inet_worker_listen(worker: &mut Worker, socket: u64, bound: &mut u16) -> i32;
     fn inet_worker_connect(
@@ -154,6 +163,7 @@ unsafe extern "C" {
         from_port: u16,
         at_addr: u32,
         at_port: u16,
+        mark: u32,
         socket: &mut u64,
     ) -> i32;
     fn inet_worker_syn(
@@ -163,9 +173,10 @@ unsafe extern "C" {
         from_port: u16,
         at_addr: u32,
         at_port: u16,
+        mark: u32,
         request: &mut u64,
     ) -> i32;
-    fn inet_worker_ack(worker: &mut Worker, request: u64, socket: &mut u64) -> i32;
+    fn inet_worker_ack(worker: &mut Worker, request: u64, mark: u32, socket: &mut u64) -> i32;
     fn inet_worker_close(worker: &mut Worker, socket: u64, waits: &mut bool) -> i32;
     fn inet_worker_drop(worker: &mut Worker, socket: u64) -> i32;
     fn inet_worker_at(worker: &mut Worker, moment: u32) -> i32;
@@ -306,16 +317,16 @@ impl Tables {
 }
 
 impl Looker {
-    pub fn look(&mut self, packet: &Packet, after: u64) -> Result<Option<Sight>, Errno> {
+    pub fn look(&mut self, packet: &Packet, after: u64) -> Result<Option<Found>, Errno> {
         let RawPacket { src, dst, sport, dport, dev, net } = raw_packet(packet);
-        let mut sight = RawSight { kind: 0, worker: 0, socket: 0 };
+        let mut sight = RawSight::default();
         // SAFETY: see above.
         done(unsafe { inet_looker_look(self, src, sport, dst, dport, dev, net, after, &mut sight) })?;
-        Ok(sight_of(sight.kind, sight.worker, sight.socket))
+        Ok(found_of(&sight))
     }
 
     /// For each packet which socket takes it, or EAGAIN.
-    pub fn look_all(&mut self, packets: &[Packet], after: u64) -> Result<Vec<Result<Option<Sight>, Errno>>, Errno> {
+    pub fn look_all(&mut self, packets: &[Packet], after: u64) -> Result<Vec<Result<Option<Found>, Errno>>, Errno> {
         let packets: Vec<RawPacket> = packets.iter().map(raw_packet).collect();
         let mut sights = vec![RawSight::default(); packets.len()];
         // SAFETY: see above; each pointer and the number behind it are of one vector.
@@ -327,11 +338,11 @@ impl Looker {
 }
 
 impl Worker {
-    pub fn socket(&mut self, options: &Options) -> Result<u64, Errno> {
+    pub fn socket(&mut self, options: &Options, mark: u32) -> Result<u64, Errno> {
         let Options { net, uid, dev, .. } = *options;
         let mut number = 0;
         // SAFETY: see above.
-        done(unsafe { inet_worker_socket(self, net, uid, dev, flags_of(options), &mut number) })?;
+        done(unsafe { inet_worker_socket(self, net, uid, dev, flags_of(options), mark, &mut number) })?;
         Ok(number)
     }
 
@@ -359,28 +370,28 @@ impl Worker {
         Ok(SocketAddrV4::new(Ipv4Addr::from_bits(addr), port))
     }
 
-    pub fn accept(&mut self, listener: u64, from: SocketAddrV4, at: SocketAddrV4) -> Result<u64, Errno> {
+    pub fn accept(&mut self, listener: u64, from: SocketAddrV4, at: SocketAddrV4, mark: u32) -> Result<u64, Errno> {
         let (from_addr, from_port) = numbers(from);
         let (at_addr, at_port) = numbers(at);
         let mut number = 0;
         // SAFETY: see above.
-        done(unsafe { inet_worker_accept(self, listener, from_addr, from_port, at_addr, at_port, &mut number) })?;
+        done(unsafe { inet_worker_accept(self, listener, from_addr, from_port, at_addr, at_port, mark, &mut number) })?;
         Ok(number)
     }
 
-    pub fn syn(&mut self, listener: u64, from: SocketAddrV4, at: SocketAddrV4) -> Result<u64, Errno> {
+    pub fn syn(&mut self, listener: u64, from: SocketAddrV4, at: SocketAddrV4, mark: u32) -> Result<u64, Errno> {
         let (from_addr, from_port) = numbers(from);
         let (at_addr, at_port) = numbers(at);
         let mut number = 0;
         // SAFETY: see above.
-        done(unsafe { inet_worker_syn(self, listener, from_addr, from_port, at_addr, at_port, &mut number) })?;
+        done(unsafe { inet_worker_syn(self, listener, from_addr, from_port, at_addr, at_port, mark, &mut number) })?;
         Ok(number)
     }
 
-    pub fn ack(&mut self, request: u64) -> Result<u64, Errno> {
+    pub fn ack(&mut self, request: u64, mark: u32) -> Result<u64, Errno> {
         let mut number = 0;
         // SAFETY: see above.
-        done(unsafe { inet_worker_ack(self, request, &mut number) })?;
+        done(unsafe { inet_worker_ack(self, request, mark, &mut number) })?;
         Ok(number)
     }
 
@@ -544,7 +555,7 @@ impl List {
     pub fn look(&mut self, from: SocketAddrV4, to: SocketAddrV4, dev: u16, net: u8) -> Result<Option<Sight>, Errno> {
         let (src, sport) = numbers(from);
         let (dst, dport) = numbers(to);
-        let mut sight = RawSight { kind: 0, worker: 0, socket: 0 };
+        let mut sight = RawSight::default();
         // SAFETY: see above.
         done(unsafe { inet_list_look(self, src, sport, dst, dport, dev, net, &mut sight) })?;
         Ok(sight_of(sight.kind, sight.worker, sight.socket))
@@ -581,8 +592,13 @@ fn sight_of(kind: u32, worker: u32, number: u64) -> Option<Sight> {
     }
 }
 
-fn told_of(raw: &RawSight) -> Result<Option<Sight>, Errno> {
-    if raw.kind == 7 { Err(Errno::EAGAIN) } else { Ok(sight_of(raw.kind, raw.worker, raw.socket)) }
+fn found_of(raw: &RawSight) -> Option<Found> {
+    let sight = sight_of(raw.kind, raw.worker, raw.socket)?;
+    Some(Found { sight, mark: raw.mark })
+}
+
+fn told_of(raw: &RawSight) -> Result<Option<Found>, Errno> {
+    if raw.kind == 7 { Err(Errno::EAGAIN) } else { Ok(found_of(raw)) }
 }
 
 fn raw_packet(packet: &Packet) -> RawPacket {

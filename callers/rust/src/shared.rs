@@ -1,6 +1,6 @@
 //! Tables that threads share, and what they hand out.
 
-use crate::{Errno, Left, Limits, Open, Options, Packet, Sight, Sizes, Socket, raw};
+use crate::{Errno, Found, Left, Limits, Open, Options, Packet, Sizes, Socket, raw};
 use alloc::boxed::Box;
 use alloc::vec::Vec;
 use core::net::{Ipv4Addr, SocketAddrV4};
@@ -63,9 +63,9 @@ impl Worker {
         Socket { worker: self.number, number }
     }
 
-    /// A new socket. EINVAL: there is no such namespace.
-    pub fn socket(&mut self, options: Options) -> Result<Socket, Errno> {
-        self.handle.socket(&options).map(|number| self.named(number))
+    /// A new socket, with that mark, which lookups answer. EINVAL: there is no such namespace.
+    pub fn socket(&mut self, options: Options, mark: u32) -> Result<Socket, Errno> {
+        self.handle.socket(&options, mark).map(|number| self.named(number))
     }
 
     /// Binds a socket, and reports its port.
@@ -83,19 +83,20 @@ impl Worker {
         self.handle.connect(self.own(s)?, from, to)
     }
 
-    /// A listener takes a connection from one end at another.
-    pub fn accept(&mut self, l: Socket, from: SocketAddrV4, at: SocketAddrV4) -> Result<Socket, Errno> {
-        self.handle.accept(self.own(l)?, from, at).map(|number| self.named(number))
+    /// A listener takes a connection from one end at another. The mark is the connected socket's.
+    pub fn accept(&mut self, l: Socket, from: SocketAddrV4, at: SocketAddrV4, mark: u32) -> Result<Socket, Errno> {
+        self.handle.accept(self.own(l)?, from, at, mark).map(|number| self.named(number))
     }
 
-    /// A handshake with a listener begins, from one end at another.
-    pub fn syn(&mut self, l: Socket, from: SocketAddrV4, at: SocketAddrV4) -> Result<Socket, Errno> {
-        self.handle.syn(self.own(l)?, from, at).map(|number| self.named(number))
+    /// A handshake with a listener begins, from one end at another. The mark is its request's.
+    pub fn syn(&mut self, l: Socket, from: SocketAddrV4, at: SocketAddrV4, mark: u32) -> Result<Socket, Errno> {
+        self.handle.syn(self.own(l)?, from, at, mark).map(|number| self.named(number))
     }
 
-    /// A request's handshake is over, and its listener takes the connection, in the request's place.
-    pub fn ack(&mut self, request: Socket) -> Result<Socket, Errno> {
-        self.handle.ack(self.own(request)?).map(|number| self.named(number))
+    /// A request's handshake is over, and its listener takes the connection, in the request's place. The mark is the
+    /// connected socket's.
+    pub fn ack(&mut self, request: Socket, mark: u32) -> Result<Socket, Errno> {
+        self.handle.ack(self.own(request)?, mark).map(|number| self.named(number))
     }
 
     /// Closes a socket, and reports whether a TIME_WAIT stays: none where no slot is free for it, or where the worker
@@ -154,18 +155,18 @@ pub struct Looker(Box<raw::Looker>);
 impl Looker {
     /// Which socket takes a packet that came in at that device in that namespace. EAGAIN: others changed a chain of
     /// sockets at each of 16 passes through it; EINVAL: there is no such namespace.
-    pub fn look(&mut self, from: SocketAddrV4, to: SocketAddrV4, dev: u16, net: u8) -> Result<Option<Sight>, Errno> {
+    pub fn look(&mut self, from: SocketAddrV4, to: SocketAddrV4, dev: u16, net: u8) -> Result<Option<Found>, Errno> {
         self.0.look(&Packet { from, to, dev, net }, 0)
     }
 
     /// [`Looker::look`] from a number of the clock on. EAGAIN: as of `look`, or it began before the clock was at
     /// `after`, which none does once [`Worker::now`] has answered that number.
-    pub fn look_after(&mut self, packet: &Packet, after: u64) -> Result<Option<Sight>, Errno> {
+    pub fn look_after(&mut self, packet: &Packet, after: u64) -> Result<Option<Found>, Errno> {
         self.0.look(packet, after)
     }
 
     /// [`Looker::look_after`] for each packet, in their order.
-    pub fn look_all(&mut self, packets: &[Packet], after: u64) -> Result<Vec<Result<Option<Sight>, Errno>>, Errno> {
+    pub fn look_all(&mut self, packets: &[Packet], after: u64) -> Result<Vec<Result<Option<Found>, Errno>>, Errno> {
         self.0.look_all(packets, after)
     }
 }

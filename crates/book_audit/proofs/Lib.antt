@@ -8,6 +8,7 @@ pub mod Serial
 pub mod Looked
 pub mod Changes
 pub mod Verdicts
+pub mod Found
 pub mod Marks
 pub mod Faces
 pub mod Numbers

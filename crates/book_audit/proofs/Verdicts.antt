@@ -81,7 +81,7 @@ in_place whys.Twin = refl
 in_place whys.Receipt = refl
 in_place whys.Count = refl
 
-one_order : (v w : Why) → order v ≡ order w → v ≡ w
+pub one_order : (v w : Why) → order v ≡ order w → v ≡ w
 one_order v w e = sym (in_place v) ∙ ap why_at e ∙ in_place w
 
 no_wrong : (p : Printed) (w v : Why) (a b : ℕ) → PassesBefore p v → Fails p w a → order w < order v → ⊥

@@ -18,6 +18,10 @@ SoundIsSerial =
 abbrev pub SoundStampsDiffer : Type 0
 SoundStampsDiffer = (p : Printed) → IsFinding p findings.Sound → StampsDiffer (book_of p.lives.items)
 
--- of each race there is one finding
+-- of each race there is one finding at most
 abbrev pub OneFinding : Type 0
 OneFinding = (p : Printed) (f g : Finding) → IsFinding p f → IsFinding p g → f ≡ g
+
+-- and there is one
+abbrev pub SomeFinding : Type 0
+SomeFinding = (p : Printed) → (f : Finding) × IsFinding p f

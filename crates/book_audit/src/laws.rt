@@ -8,7 +8,8 @@ pub fn sound_is_serial()
     ensures once { law.SoundStampsDiffer }
 {}
 
-/// Of each race there is one finding.
+/// Of each race there is exactly one finding.
 pub fn one_finding()
-    ensures { law.OneFinding }
+    ensures most { law.OneFinding }
+    ensures least { law.SomeFinding }
 {}

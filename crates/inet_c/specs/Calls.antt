@@ -1,5 +1,6 @@
 -- What a call through a handle does. Our own.
 use Rattle.std.specs.Prelude.{◌≡◌, ℕ, ◌+◌, Option, None, Some, length}
+use Rattle.std.specs.Option.{option_map}
 use Rattle.flat_list.specs.declared.command.Command.{Command}
 use Rattle.flat_calls.specs.declared.outcome.Outcome.{Outcome}
 use Rattle.flat_calls.specs.declared.outcome.Outcome.TheVariants as outcomes
@@ -19,6 +20,11 @@ abbrev pub WorkerCalled : Option Limited → Option Limited → Command → Outc
 WorkerCalled None new command outcome = (new ≡ None) × (outcome ≡ outcomes.NoTables)
 WorkerCalled (Some old) None command outcome = ⊥
 WorkerCalled (Some old) (Some new) command outcome = shared.Called old new command outcome
+
+-- so one that gives the sockets to come that mark first
+abbrev pub WorkerMakes : Option Limited → Option Limited → (mark : ℕ) → Command → Outcome → Type 0
+WorkerMakes old new mark command outcome =
+    WorkerCalled (option_map (λ (worker : Limited). shared.with_mark worker mark) old) new command outcome
 
 -- the number of a list's next socket, or 0 where the handle holds none
 abbrev pub next_of_list : Option Numbered → ℕ

@@ -13,17 +13,17 @@ use Rattle.inet_c.specs.declared.seen.InetSight.{InetSight}
 
 -- no socket
 abbrev pub nobody : InetSight
-nobody = record { kind = 0; worker = 0; socket = 0 }
+nobody = record { kind = 0; worker = 0; socket = 0; mark = 0 }
 
--- the sight as numbers: all 0 where no socket takes the packet
+-- the sight as numbers: all 0 where no socket takes the packet; a list's sockets have no marks
 abbrev pub told : Option Sight → InetSight
 told None = nobody
-told (Some s) = record { kind = s.kind; worker = s.worker; socket = s.socket }
+told (Some s) = record { kind = s.kind; worker = s.worker; socket = s.socket; mark = 0 }
 
--- the socket that a looker found, by its name: its worker's number above, and its own in the lower 56 bits
+-- the socket that a looker found, by its name: its worker's number above, and its own in the lower 56 bits; and its mark
 abbrev pub told_by : PacketAnswer → InetSight
 told_by (answers.Found card) =
-    record { kind = kind_of card.kind; worker = card.name / 2 ^ 56; socket = card.name % 2 ^ 56 }
+    record { kind = kind_of card.kind; worker = card.name / 2 ^ 56; socket = card.name % 2 ^ 56; mark = card.mark }
 told_by _ = nobody
 
 -- EAGAIN where others changed the chains at each pass

@@ -4,7 +4,7 @@ ghost use Rattle.std.specs.Prelude.{◌≡◌, false};
 ghost use Rattle.table_model.specs.Means.{is_lookup};
 ghost use Rattle.shared_calls.specs.Numbers.{IsNext};
 ghost use Rattle.inet_c.specs.Calls as spec;
-ghost use Rattle.inet_c.specs.Calls.{ListCalled, WorkerCalled};
+ghost use Rattle.inet_c.specs.Calls.{ListCalled, WorkerCalled, WorkerMakes};
 ghost use Rattle.inet_c.specs.Owned.{held};
 
 use crate::kinds::{InetList, InetWorker};
@@ -65,6 +65,23 @@ pub fn call_worker(worker: &mut InetWorker, alloc: Global, command: &Command) ->
     match worker.take(alloc) {
         None => Outcome::NoTables,
         Some(mut limited) => {
+            let outcome = limited.call(command);
+            *worker = InetWorker::of(limited);
+            outcome
+        }
+    }
+}
+
+/// [`call_worker`] of a command that makes a socket, which gets that mark.
+pub fn make(worker: &mut InetWorker, alloc: Global, mark: u32, command: &Command) -> Outcome
+    requires look { is_lookup command.now ≡ false }
+    requires next { IsNext (spec.next_of_worker (held worker.old.boxed)) command.now }
+    ensures { WorkerMakes (held worker.old.boxed) (held worker.new.boxed) mark command.now result }
+{
+    match worker.take(alloc) {
+        None => Outcome::NoTables,
+        Some(mut limited) => {
+            limited.caller.set_mark(mark);
             let outcome = limited.call(command);
             *worker = InetWorker::of(limited);
             outcome

@@ -16,14 +16,15 @@ use std::alloc::Global;
 /// How many passes a looker makes through a chain at most, before it gives up.
 pub const PASSES: u32 = 16;
 
-/// What a lookup reports: the kind of socket (1 connected, 2 in TIME_WAIT, 3 a listener, 4 a request), its worker and
-/// its number; all 0 where no socket takes the packet.
+/// What a lookup reports: the kind of socket (1 connected, 2 in TIME_WAIT, 3 a listener, 4 a request), its worker, its
+/// number and its mark; all 0 where no socket takes the packet.
 #[repr(C)]
 #[derive(Clone, Copy, Debug, PartialEq, Eq)]
 pub struct InetSight {
     pub kind: u32,
     pub worker: u32,
     pub socket: u64,
+    pub mark: u32,
 }
 
 /// No socket.
@@ -31,6 +32,7 @@ pub const NOBODY: InetSight = InetSight {
     kind: 0,
     worker: 0,
     socket: 0,
+    mark: 0,
 };
 
 fn told(found: Option<Sight>) -> InetSight
@@ -48,6 +50,7 @@ fn told(found: Option<Sight>) -> InetSight
             kind,
             worker,
             socket,
+            mark: 0,
         },
     }
 }
@@ -63,6 +66,7 @@ fn told_by(answer: &PacketAnswer) -> (InetSight, i32)
                 kind: kind_of(card.kind),
                 worker: (card.name >> 56) as u32,
                 socket: card.name & 0xFF_FFFF_FFFF_FFFF,
+                mark: card.mark,
             };
             (sight, 0)
         }

@@ -8,7 +8,7 @@ ghost use Rattle.flat_calls.specs.Commands as commands;
 ghost use Rattle.flat_calls.specs.Errnos as told;
 ghost use Rattle.flat_calls.specs.declared.outcome.Outcome.{Outcome};
 ghost use Rattle.inet_c.specs.Asked.{TellsClock, TellsLeft, TellsNextOver, TellsSocket};
-ghost use Rattle.inet_c.specs.Calls.{WorkerCalled, next_of_worker};
+ghost use Rattle.inet_c.specs.Calls.{WorkerCalled, WorkerMakes, next_of_worker};
 ghost use Rattle.inet_c.specs.Opened.{TellsOpen};
 ghost use Rattle.inet_c.specs.Owned.{held};
 ghost use Rattle.inet_c.specs.Returned as returned;
@@ -50,7 +50,8 @@ pub extern "C" fn inet_worker_free(worker: &mut InetWorker, alloc: Global)
 }
 
 /// Makes a socket, in network namespace `net`, of user `uid`, on device `dev` or on none (0).
-/// `flags` add up 1 for SO_REUSEADDR, 2 for SO_REUSEPORT and 4 for IP_BIND_ADDRESS_NO_PORT. `socket` is its number.
+/// `flags` add up 1 for SO_REUSEADDR, 2 for SO_REUSEPORT and 4 for IP_BIND_ADDRESS_NO_PORT. A lookup answers the mark
+/// beside the socket's number. `socket` is its number.
 #[unsafe(no_mangle)]
 pub extern "C" fn inet_worker_socket(
     worker: &mut InetWorker,
@@ -59,13 +60,14 @@ pub extern "C" fn inet_worker_socket(
     uid: u32,
     dev: u16,
     flags: u32,
+    mark: u32,
     socket: &mut u64,
 ) -> i32
     ensures unfit { (AreOptions net flags → ⊥)
         → (result ≡ EINVAL) × (socket.new ≡ 0) × (worker.new.boxed ≡ worker.old.boxed) }
     ensures number { AreOptions net flags → socket.new ≡ next_of_worker (held worker.old.boxed) }
     ensures called { AreOptions net flags → (outcome : Outcome)
-        × WorkerCalled (held worker.old.boxed) (held worker.new.boxed)
+        × WorkerMakes (held worker.old.boxed) (held worker.new.boxed) mark
         (commands.socket socket.new (words.options net uid dev flags)) outcome
         × (result ≡ pos (told.errno_of outcome)) }
 {
@@ -76,7 +78,7 @@ pub extern "C" fn inet_worker_socket(
     let number = calls::next_of_worker(worker, alloc);
     *socket = number;
     let command = commands::socket(number, words::options(net, uid, dev, flags));
-    errno_of(calls::call_worker(worker, alloc, &command))
+    errno_of(calls::make(worker, alloc, mark, &command))
 }
 
 /// Binds a socket to an address, 0 for any, and a port; at port 0 to one that is searched for. `bound` is its port.
@@ -144,7 +146,7 @@ pub extern "C" fn inet_worker_connect(
     errno_of(outcome)
 }
 
-/// A listener takes a connection from one end at another. `socket` is the number of the connected socket.
+/// A listener takes a connection from one end at another. `mark` is the connected socket's, and `socket` its number.
 #[unsafe(no_mangle)]
 pub extern "C" fn inet_worker_accept(
     worker: &mut InetWorker,
@@ -154,10 +156,11 @@ pub extern "C" fn inet_worker_accept(
     from_port: u16,
     at_addr: u32,
     at_port: u16,
+    mark: u32,
     socket: &mut u64,
 ) -> i32
     ensures number { socket.new ≡ next_of_worker (held worker.old.boxed) }
-    ensures called { (outcome : Outcome) × WorkerCalled (held worker.old.boxed) (held worker.new.boxed)
+    ensures called { (outcome : Outcome) × WorkerMakes (held worker.old.boxed) (held worker.new.boxed) mark
         (commands.accept listener socket.new (record { addr = from_addr; port = from_port })
         (record { addr = at_addr; port = at_port })) outcome
         × (result ≡ pos (told.errno_of outcome)) }
@@ -173,10 +176,10 @@ pub extern "C" fn inet_worker_accept(
         port: at_port,
     };
     let command = commands::accept(listener, number, from, at);
-    errno_of(calls::call_worker(worker, alloc, &command))
+    errno_of(calls::make(worker, alloc, mark, &command))
 }
 
-/// A handshake with a listener begins, from one end at another. `request` is the number of its request.
+/// A handshake with a listener begins, from one end at another. `mark` is its request's, and `request` its number.
 #[unsafe(no_mangle)]
 pub extern "C" fn inet_worker_syn(
     worker: &mut InetWorker,
@@ -186,10 +189,11 @@ pub extern "C" fn inet_worker_syn(
     from_port: u16,
     at_addr: u32,
     at_port: u16,
+    mark: u32,
     request: &mut u64,
 ) -> i32
     ensures number { request.new ≡ next_of_worker (held worker.old.boxed) }
-    ensures called { (outcome : Outcome) × WorkerCalled (held worker.old.boxed) (held worker.new.boxed)
+    ensures called { (outcome : Outcome) × WorkerMakes (held worker.old.boxed) (held worker.new.boxed) mark
         (commands.syn listener request.new (record { addr = from_addr; port = from_port })
         (record { addr = at_addr; port = at_port })) outcome
         × (result ≡ pos (told.errno_of outcome)) }
@@ -205,26 +209,27 @@ pub extern "C" fn inet_worker_syn(
         port: at_port,
     };
     let command = commands::syn(listener, number, from, at);
-    errno_of(calls::call_worker(worker, alloc, &command))
+    errno_of(calls::make(worker, alloc, mark, &command))
 }
 
-/// A request's handshake is over, and its listener takes the connection. `socket` is the number of the connected
-/// socket.
+/// A request's handshake is over, and its listener takes the connection. `mark` is the connected socket's, and `socket`
+/// its number.
 #[unsafe(no_mangle)]
 pub extern "C" fn inet_worker_ack(
     worker: &mut InetWorker,
     alloc: Global,
     request: u64,
+    mark: u32,
     socket: &mut u64,
 ) -> i32
     ensures number { socket.new ≡ next_of_worker (held worker.old.boxed) }
-    ensures called { (outcome : Outcome) × WorkerCalled (held worker.old.boxed) (held worker.new.boxed)
+    ensures called { (outcome : Outcome) × WorkerMakes (held worker.old.boxed) (held worker.new.boxed) mark
         (commands.ack request socket.new) outcome × (result ≡ pos (told.errno_of outcome)) }
 {
     let number = calls::next_of_worker(worker, alloc);
     *socket = number;
     let command = commands::ack(request, number);
-    errno_of(calls::call_worker(worker, alloc, &command))
+    errno_of(calls::make(worker, alloc, mark, &command))
 }
 
 /// Closes a socket. `waits` says whether a TIME_WAIT stays: a connected socket leaves one, where a slot is free for

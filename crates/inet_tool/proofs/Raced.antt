@@ -33,7 +33,7 @@ use Rattle.inet_tool.specs.Audit.{verdict_status}
 use Rattle.inet_tool.specs.Races.{IsRaceOf, Passes, Says}
 
 -- what a lawful record says of its race
-says : (script : Script) (capture : Capture) (race : Race) → IsSmall script → Lawful script capture race → Says race
+says : (script : Script) (capture : Capture) (race : Race) → IsSmall script → Lawful script capture race → Says script race
 says script capture race small lawful =
     record {
       headline = lawful_says script capture race lawful;

@@ -16,7 +16,7 @@ use Rattle.inet_tool.specs.Audit.{IsOutcome, outcome_status}
 use Rattle.inet_tool.specs.Table.{WritesOut}
 
 -- what a record of a race says
-pub record Says (race : Race) : Type 0 where
+pub record Says (script : Script) (race : Race) : Type 0 where
   -- No two full sockets ever have one four-tuple, no two bound sockets of different origin ever conflict, each
   -- packet's answer has its cause, and each dump lists what stood hashed throughout, nothing that stood at no time
   -- meanwhile, and no place in a chain twice.
@@ -25,14 +25,15 @@ pub record Says (race : Race) : Type 0 where
   pub names : HashesOnce (Among race.book)
   -- so each dump lists a name once for each kind, and each of its items is of one life alone
   pub dumps : Each (ListsOnce (Among race.book)) (listings_of race)
-  -- each `ack` that was done had hashed its connection before it began to unhash the request, in one chain
-  pub acks : HandsAllOver race
+  -- each `ack` that was done had hashed the connection that its second label names before it began to unhash the
+  -- request that its first names, in one chain
+  pub acks : HandsAllOver script race
 
 -- so says whatever lawful record of a race of these bytes
 abbrev pub RacesSay : List ℕ → Type 0
 RacesSay bytes =
     (script : Script) (capture : Capture) (race : Race) → HasRace bytes script capture → Lawful script capture race
-    → Says race
+    → Says script race
 
 -- whatever `audit` is to say of the text, it is yes
 abbrev pub Passes : List ℕ → Type 0

@@ -22,6 +22,7 @@ owner net name =
       dev = 0;
       net = net;
       uid = 0;
+      mark = 0;
       reuseaddr = true;
       reuseport = true;
       noport = false;

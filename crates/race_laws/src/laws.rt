@@ -13,8 +13,8 @@ pub fn listed_once()
     ensures names { ListsNamesOnce }
 {}
 
-/// Each `ack` that is answered with Ok handed a request over: the connection's hash ended before the request's unhash
-/// began, in one chain.
+/// Each `ack` that is answered with Ok handed the request over that its first label names: the hash of the connection
+/// that its second label names ended before the request's unhash began, in one chain.
 pub fn handovers()
     ensures order { AcksHandOver }
 {}

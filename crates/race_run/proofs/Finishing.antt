@@ -41,7 +41,8 @@ use Rattle.race_run.specs.Joins.{Part}
 use Rattle.race_run.specs.Lookers.{HasLooked, AllLooked, item_of}
 use Rattle.race_run.specs.Races.{AllDone, HasOnlyLooked, SectionDone}
 use Rattle.race_run.specs.Shares.{HasDrawnAll, HasMissedAsThey, items_in}
-use Rattle.race_run.specs.Workers.{AreTables, IsAtRest, IsFirst, part_of}
+use Rattle.race_run.specs.Workers.{AreTables, IsFirst, part_of}
+use Rattle.sock_ops.specs.Tables.{IsAtRest}
 use Rattle.race_run.specs.Works.{HasRun, HasShared, IsWorked, AllWorked}
 use Rattle.race_run.proofs.Weights.{map_flat}
 use Rattle.race_run.proofs.Working.{get_map}

@@ -36,7 +36,8 @@ use Rattle.race_run.specs.Made.{Loads, MadeAll, loaded}
 use Rattle.race_run.specs.Races.{SectionDone}
 use Rattle.race_run.specs.Said.{Said, said_as, saying}
 use Rattle.race_run.specs.Sections.{HasDone}
-use Rattle.race_run.specs.Workers.{AreTables, IsAtRest, IsFresh, part_of}
+use Rattle.race_run.specs.Workers.{AreTables, IsFresh, part_of}
+use Rattle.sock_ops.specs.Tables.{IsAtRest}
 use Rattle.race_run.proofs.Leaving.{all_made}
 use Rattle.race_run.proofs.Sectioned.{begins, one_more}
 

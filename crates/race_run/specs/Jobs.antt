@@ -15,7 +15,8 @@ use Rattle.race_run.specs.declared.jobs.Outcome.{Outcome}
 use Rattle.race_run.specs.Joins.{Part, Joined}
 use Rattle.race_run.specs.Said.{Said, said_as}
 use Rattle.race_run.specs.Shares.{HasDrawnNothing, HasTold}
-use Rattle.race_run.specs.Workers.{IsAtRest, IsFresh, part_of}
+use Rattle.race_run.specs.Workers.{IsFresh, part_of}
+use Rattle.sock_ops.specs.Tables.{IsAtRest}
 
 -- the job of that number, which has done nothing
 pub record IsReady (header : Header) (t : Tables) (q : Tickets) (n : ℕ) (j : Job) : Type 0 where

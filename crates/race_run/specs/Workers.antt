@@ -1,15 +1,15 @@
 -- What workers are between two calls: our own.
 use Rattle.std.specs.Prelude.{◌≡◌, ℕ, ◌+◌, ◌≤◌, true, []}
 use Rattle.bind_buckets.specs.declared.request.Sharing.TheVariants as sharings
-use Rattle.sock_ops.specs.Sides.{IsResting, HoldsNothing}
 use Rattle.flat_list.specs.declared.header.Header.{Header}
 use Rattle.reuseport_group.specs.Passes as lists
 use Rattle.table_rule.specs.Passes as chain_words
 use Rattle.turn_table.specs.Passes as words
-use Rattle.turn_table.specs.Passes.{IsPassOf, IsFree, known}
+use Rattle.turn_table.specs.Passes.{known}
 use Rattle.sock_ops.specs.declared.tables.Tables.{Tables}
 use Rattle.sock_ops.specs.declared.tables.Worker.{Worker}
-use Rattle.sock_ops.specs.Stands.{HasGroups, IsReady, buckets_of, turned, chained}
+use Rattle.sock_ops.specs.Tables.{IsAtRest}
+use Rattle.sock_ops.specs.Stands.{IsReady, buckets_of, turned, chained}
 use Rattle.race_run.specs.Joins.{Part, IsBlank}
 use Rattle.race_run.specs.Sections.{HasNothing, layout_in}
 
@@ -24,14 +24,6 @@ pub record AreTables (header : Header) (t : Tables) : Type 0 where
 -- what a worker has done
 abbrev pub part_of : Worker → Part
 part_of w = record { turns = known w.turns; chain = chain_words.known w.chain.pass }
-
--- a worker that takes others in, and one that is taken in: no bucket is out, and no change under way
-pub record IsAtRest (t : Tables) (w : Worker) : Type 0 where
-  pub turns : IsPassOf t.buckets w.turns
-  pub free : IsFree w.turns
-  pub rests : IsResting t.chains w.chain
-  pub nothing : HoldsNothing (part_of w).chain
-  pub groups : HasGroups t w.groups
 
 -- the first worker, which has done nothing, after it split off so many
 pub record IsFirst (t : Tables) (before : ℕ) (w : Worker) : Type 0 where

@@ -5,10 +5,11 @@ ghost use Rattle.flat_list.specs.declared.header.Header.{Header};
 ghost use Rattle.race_run.specs.Jobs.{AllOver, AllReady, HasAllParts, IsGathered, outcomes_in, part_in};
 ghost use Rattle.race_run.specs.Joins.{Part};
 ghost use Rattle.race_run.specs.Shares.{HasDrawnAll, IsFirstPass};
-ghost use Rattle.race_run.specs.Workers.{AreTables, IsAtRest, IsFirst, part_of};
+ghost use Rattle.race_run.specs.Workers.{AreTables, IsFirst, part_of};
+ghost use Rattle.sock_ops.specs.Tables.{IsAtRest};
 
 use crate::looker::Look;
-use crate::worker::{join, split};
+use crate::worker::split;
 use flat_list::Reply;
 use sock_ops::{Tables, Worker};
 use socket_list::Listing;
@@ -108,7 +109,7 @@ pub fn gather(
             told,
             ..
         } = result?;
-        join(tables, first, worker)?;
+        first.join(tables, worker)?;
         draws.join(tickets, drawn);
         given.push(Outcome {
             replies,

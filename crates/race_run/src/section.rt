@@ -11,7 +11,8 @@ ghost use Rattle.table_model.specs.Means.{is_lookup};
 ghost use Rattle.race_run.specs.Dumped.{ListsMore};
 ghost use Rattle.race_run.specs.Races.{SectionDone};
 ghost use Rattle.race_run.specs.Said.{said_as};
-ghost use Rattle.race_run.specs.Workers.{AreTables, IsAtRest, IsFresh, part_of};
+ghost use Rattle.race_run.specs.Workers.{AreTables, IsFresh, part_of};
+ghost use Rattle.sock_ops.specs.Tables.{IsAtRest};
 
 use crate::table_dump::dump;
 use flat_list::{Command, Header, KeptCommand, Reply};

@@ -4,7 +4,8 @@ ghost use Rattle.std.specs.Prelude.{◌≡◌, ℕ, ◌<◌, length, IfOk};
 ghost use Rattle.flat_list.specs.declared.header.Header.{Header};
 ghost use Rattle.race_run.specs.Lookers.{HasLooked};
 ghost use Rattle.race_run.specs.Shares.{HasDrawnNothing, HasTold, IsFirstPass};
-ghost use Rattle.race_run.specs.Workers.{AreTables, IsAtRest, IsFresh, part_of};
+ghost use Rattle.race_run.specs.Workers.{AreTables, IsFresh, part_of};
+ghost use Rattle.sock_ops.specs.Tables.{IsAtRest};
 ghost use Rattle.tickets.specs.Passes.{HasMissed, tickets as tickets_of};
 ghost use Rattle.turn_table.specs.Passes as words;
 

@@ -1,5 +1,5 @@
 -- On which lines the judge reports its finding.
-use Rattle.std.proofs.Common.{◌≡◌, ℕ, zero, suc, ◌+◌, ◌-◌, ◌<◌, List, [], ◌∷◌, length, take, Option, Some, None, slice_get, Bool, true, cond, IsTrue, count_by, refl, sym, ap, subst, ◌∙◌, arith}
+use Rattle.std.proofs.Common.{◌≡◌, ℕ, zero, suc, ◌+◌, ◌-◌, ◌<◌, ◌≤◌, List, [], ◌∷◌, length, take, Option, Some, None, slice_get, Bool, true, false, cond, IsTrue, count_by, refl, sym, ap, subst, ◌∙◌, arith}
 use Rattle.std.specs.Prelude.{IsSomeAnd, is_some}
 use Rattle.std.specs.List.{cons_option, filter_map}
 use Rattle.std.proofs.lemmas.List.Sums.{sum_by-cons}
@@ -48,6 +48,43 @@ module _ {A : Type 0} (p : A → Bool) where
   counts_one [] i is = absurd is
   counts_one (x ∷ xs) zero is = omega (arith, passing x xs is)
   counts_one (x ∷ xs) (suc i) is = omega (arith, count_cons x xs, counts_one xs i is)
+
+  -- the item that is number k of those that pass
+  pub record Numbered (xs : List A) (k : ℕ) : Type 0 where
+    pub at : ℕ
+    pub within : at < length xs
+    pub is : IsSomeAnd (slice_get xs at) (λ x. IsTrue (p x))
+    pub before : count_by p (take at xs) ≡ k
+
+  failing : (x : A) (xs : List A) → p x ≡ false → count_by p (x ∷ xs) ≡ count_by p xs
+  failing x xs e = count_cons x xs ∙ ap (λ b. cond b 1 0 + count_by p xs) e ∙ omega arith
+
+  one_later : (k : ℕ) → 1 + k ≡ suc k
+  one_later k = omega arith
+
+  numbered_from : (x : A) (xs : List A) → ((k : ℕ) → k < count_by p xs → Numbered xs k) → (k : ℕ) → k < count_by p (x ∷ xs) → (b : Bool) → p x ≡ b → Numbered (x ∷ xs) k
+  numbered_from x xs rest zero l true e = record { at = zero; within = omega arith; is = e; before = refl }
+  numbered_from x xs rest (suc k) l true e =
+      let s = rest k (omega (arith, l, passing x xs e)) in
+      record { at = suc s.at; within = omega (arith, s.within); is = s.is; before = passing x (take s.at xs) e ∙ ap (λ n. 1 + n) s.before ∙ one_later k }
+  numbered_from x xs rest k l false e =
+      let s = rest k (omega (arith, l, failing x xs e)) in
+      record { at = suc s.at; within = omega (arith, s.within); is = s.is; before = failing x (take s.at xs) e ∙ s.before }
+
+  -- there is one for each number below their count
+  pub numbered : (xs : List A) (k : ℕ) → k < count_by p xs → Numbered xs k
+  numbered [] k l = let none : count_by p [] ≡ 0 = refl in absurd (omega (arith, l, none))
+  numbered (x ∷ xs) k l = numbered_from x xs (numbered xs) k l (p x) refl
+
+-- a function gives something for no more items than there are
+module _ {A B : Type 0} (f : A → Option B) where
+  mapped_from : (xs : List A) (o : Option B) → length (cons_option o (filter_map f xs)) ≤ 1 + length (filter_map f xs)
+  mapped_from xs None = omega arith
+  mapped_from xs (Some y) = omega arith
+
+  pub fewer_mapped : (xs : List A) → length (filter_map f xs) ≤ length xs
+  fewer_mapped [] = omega arith
+  fewer_mapped (x ∷ xs) = omega (arith, mapped_from xs (f x), fewer_mapped xs)
 
 life_tried : (why : Why) (number : Name → ℕ) → is_tried why ≡ is_tried whys.Stamp → (line : Line) → is_some (life_in number line) ≡ is_tried why line
 life_tried why number same (lines.Life l) = λ i. sym same i (lines.Life l)

@@ -17,3 +17,4 @@ pub mod Shapes
 pub mod NamesTold
 pub mod Judged
 pub mod OneAnswer
+pub mod SomeAnswer

@@ -141,10 +141,10 @@ reads_on text old new rest line after words r cut spelled t =
     let left : drop (length (old ++ t.0 ∷ [])) (pieces_of text) ≡ pieces_of after = ap (λ k. drop k (pieces_of text)) pushed ∙ n.left in
     subst (λ ls. HasRead text ls after) (sym t.2) (record { begins = record { forms = forms; order = order }; left = left })
 
-some_piece : (text : List ℕ) → 1 ≤ length (pieces_of text)
+pub some_piece : (text : List ℕ) → 1 ≤ length (pieces_of text)
 some_piece text = omega (arith, length-slice_split is_line_feed text)
 
-one_less : (n : ℕ) → n + 1 - 1 ≡ n
+pub one_less : (n : ℕ) → n + 1 - 1 ≡ n
 one_less n = omega arith
 
 -- lines that may not come after those

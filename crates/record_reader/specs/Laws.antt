@@ -1,5 +1,6 @@
 -- What follows from the definitions of records: our own laws.
-use Rattle.std.specs.Prelude.{◌≡◌, ℕ, List}
+use Rattle.std.specs.Prelude.{◌≡◌, ℕ, ◌^◌, ◌<◌, List, length}
+use Rattle.std.specs.Global.{Global}
 use Rattle.list_words.specs.Lists.{Each}
 use Rattle.race_book.specs.Among.{Among}
 use Rattle.race_book.specs.Listed.{StampsDiffer}
@@ -31,6 +32,17 @@ HasOneRecord = (text : List ℕ) (a b : List Line) → IsRecord text a → IsRec
 -- and one verdict at most
 abbrev pub HasOneVerdict : Type 0
 HasOneVerdict = (text : List ℕ) (a b : Verdict) → IsVerdict text a → IsVerdict text b → a ≡ b
+
+-- a text of which no line is the first outside is a record: it can't be that it has the lines of none
+abbrev pub HasSomeRecord : Type 0
+HasSomeRecord =
+    (text : List ℕ) → ((n : ℕ) → ¬ (IsFirstOutside text n)) → ¬ ((lines : List Line) → ¬ (IsRecord text lines))
+
+-- and a record that memory has room for has a verdict
+abbrev pub HasSomeVerdict : Type 0
+HasSomeVerdict =
+    (alloc : Global) (text : List ℕ) (lines : List Line) → length text < 2 ^ 63 → IsRecord text lines
+    → (verdict : Verdict) × IsVerdict text verdict
 
 -- what a race says that passes each test: its changes are serial, and no number of the clock stands in them twice,
 -- each packet's line has its cause among them, and the clock counts them and the slots that were sought in vain

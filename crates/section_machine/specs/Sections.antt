@@ -20,6 +20,10 @@ pub record Kept : Type 0 where
 abbrev pub kept : Header → Own → Kept
 kept header own = record { header = header; own = own }
 
+-- sockets to come get that mark
+abbrev pub with_mark : Kept → ℕ → Kept
+with_mark k mark = record k { own = record k.own { mark = mark } }
+
 -- the header and the section's number stay, and one label more is given at most
 pub record KeepsHeader (old new : Kept) : Type 0 where
   pub header : new.header ≡ old.header

@@ -93,3 +93,7 @@ pub record IsSection (t : Tables) (k : Kept) (w : Worker) : Type 0 where
   pub tells : Tells (words.caller w.turns) k.own.number
   pub stand : AllOpen t (roll_of k.own) (turned w) (chained t w)
   pub unspoken : (name : ℕ) → IsUngiven (roll_of k.own) name → IsUnspoken (turned w) name
+
+-- wherever the one is a worker's section, the other is
+abbrev pub StaysSection : Kept → Kept → Type 0
+StaysSection old new = (t : Tables) (w : Worker) → IsSection t old w → IsSection t new w

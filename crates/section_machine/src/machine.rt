@@ -18,8 +18,8 @@ ghost use Rattle.section_machine.specs.Carried.{Carries, HasEnough, Keeps, Spend
 ghost use Rattle.section_machine.specs.LeftOff.{LeftOff, IsLeftOff};
 ghost use Rattle.section_machine.specs.Opened as opened;
 ghost use Rattle.section_machine.specs.Opened.{IsNextOpen, NoneAbove};
-ghost use Rattle.section_machine.specs.Sections.{Did, GivesLabels, KeepsHeader, kept};
-ghost use Rattle.section_machine.specs.Standing.{IsSection};
+ghost use Rattle.section_machine.specs.Sections.{Did, GivesLabels, KeepsHeader, kept, with_mark};
+ghost use Rattle.section_machine.specs.Standing.{IsSection, StaysSection};
 ghost use Rattle.section_machine.specs.Waits.{IsNextOver, NeverOver};
 ghost use Rattle.std.specs.Option.{option_copied};
 
@@ -376,6 +376,14 @@ impl Machine {
             },
             _ => {},
         }
+    }
+
+    /// Sets the mark that the sockets get which it makes from then on: 0 until it is set.
+    pub fn set_mark(&mut self, mark: u32)
+        ensures set { self.new ≡ with_mark self.old mark }
+        ensures section { StaysSection self.old self.new }
+    {
+        self.labels.set_mark(mark);
     }
 
     /// Carries a command out, any but `look` and `packets`, whoever else is at the tables. A `dump` does nothing here:

@@ -5,8 +5,8 @@ use Rattle.flat_calls.specs.Numbers.{label_of}
 use Rattle.flat_list.specs.declared.command.Command.{Command}
 use Rattle.flat_list.specs.declared.command.Command.TheVariants as commands
 use Rattle.section_machine.specs.Carried.{HasEnough, Spends}
-use Rattle.section_machine.specs.Sections.{Kept, GivesLabels, given_by}
-use Rattle.section_machine.specs.Standing.{IsSection}
+use Rattle.section_machine.specs.Sections.{Kept, GivesLabels, given_by, with_mark}
+use Rattle.section_machine.specs.Standing.{IsSection, StaysSection}
 use Rattle.sock_ops.specs.declared.tables.Tables.{Tables}
 use Rattle.sock_ops.specs.declared.tables.Worker.{Worker}
 use Rattle.sock_ops.specs.Stands.{MayEnter}
@@ -77,3 +77,11 @@ goes_on t k l w u tag command r c stamps room next section spends gives ended =
       part = omega (arith, drawn);
       ended = ended;
     }
+
+-- and with another mark of the sockets to come
+pub goes_on_marked : (t : Tables) (k l : Kept) (w : Worker) (tag mark : ℕ) → l ≡ with_mark k mark → StaysSection k l → IsCalling (calling t k w tag) → IsCalling (calling t l w tag)
+goes_on_marked t k l w tag mark is stays c =
+    let section = stays t w c.section in
+    let now : IsCalling (calling t (with_mark k mark) w tag) =
+    record { section = subst (λ (x : Kept). IsSection t x w) is section; numbered = c.numbered; few = c.few; part = c.part; ended = c.ended } in
+    subst (λ (x : Kept). IsCalling (calling t x w tag)) (sym is) now

@@ -17,15 +17,15 @@ packet_of a = record { src = a.src; sport = a.sport; dst = a.dst; dport = a.dpor
 
 -- no socket; and no answer
 abbrev pub nobody : Sighting
-nobody = record { kind = 0; worker = 0; socket = 0 }
+nobody = record { kind = 0; worker = 0; socket = 0; mark = 0 }
 
 abbrev pub again : Sighting
-again = record { kind = 7; worker = 0; socket = 0 }
+again = record { kind = 7; worker = 0; socket = 0; mark = 0 }
 
--- the socket that was found, by its name: its caller's number above, and its own in the lower 56 bits
+-- the socket that was found, by its name: its caller's number above, and its own in the lower 56 bits; and its mark
 abbrev pub told_by : PacketAnswer → Sighting
 told_by (answers.Found card) =
-    record { kind = kind_of card.kind; worker = card.name / 2 ^ 56; socket = card.name % 2 ^ 56 }
+    record { kind = kind_of card.kind; worker = card.name / 2 ^ 56; socket = card.name % 2 ^ 56; mark = card.mark }
 told_by answers.None = nobody
 told_by (answers.Again bucket stop) = again
 

@@ -17,6 +17,7 @@ use Rattle.sock_ops.specs.Stands.{MayEnter, turned, chained}
 use Rattle.table_rule.specs.Passes.{known, drawn_by, seen_by}
 use Rattle.section_machine.specs.LeftOff.{IsLeftOff}
 use Rattle.section_machine.specs.Sections.{Did, Kept, given_by}
+use Rattle.section_machine.specs.Sections as marks
 use Rattle.section_machine.specs.Standing.{IsSection}
 use Rattle.shared_calls.specs.Numbers.{IsNumbered}
 
@@ -29,6 +30,10 @@ pub record Calling : Type 0 where
 
 abbrev pub calling : Tables → Kept → Worker → ℕ → Calling
 calling t k w tag = record { tables = t; kept = k; worker = w; tag = tag }
+
+-- sockets to come get that mark
+abbrev pub with_mark : Calling → ℕ → Calling
+with_mark c mark = record c { kept = marks.with_mark c.kept mark }
 
 -- what its worker knows of the clock
 abbrev pub clock_of : Calling → ℕ

@@ -21,6 +21,10 @@ use Rattle.shared_calls.specs.declared.limited.Limits.{Limits}
 abbrev pub limited : Calling → Limits → Limited
 limited c limits = record { caller = c; limits = limits; full = 0 }
 
+-- sockets to come get that mark
+abbrev pub with_mark : Limited → ℕ → Limited
+with_mark l mark = record l { caller = callings.with_mark l.caller mark }
+
 -- the command takes a slot, and is refused where none is free
 abbrev pub takes_slot : Command → Bool
 takes_slot (commands.Listen label) = true

@@ -22,7 +22,7 @@ pub struct Asking {
 }
 
 /// What a lookup of a batch says: the kind of socket (1 connected, 2 in TIME_WAIT, 3 a listener, 4 a request), its
-/// worker and its number; all 0 where no socket takes the packet; and kind 7 where the lookup gave no answer, and can be
+/// worker, its number and its mark; all 0 where no socket takes the packet; and kind 7 where the lookup gave no answer, and can be
 /// made again.
 #[repr(C)]
 #[derive(Clone, Copy, Debug, PartialEq, Eq)]
@@ -30,6 +30,7 @@ pub struct Sighting {
     pub kind: u32,
     pub worker: u32,
     pub socket: u64,
+    pub mark: u32,
 }
 
 fn packet_of(asking: &Asking) -> Packet
@@ -53,16 +54,19 @@ fn told_by(answer: &PacketAnswer) -> Sighting
             kind: kind_of(card.kind),
             worker: (card.name >> 56) as u32,
             socket: card.name & 0xFF_FFFF_FFFF_FFFF,
+            mark: card.mark,
         },
         PacketAnswer::None => Sighting {
             kind: 0,
             worker: 0,
             socket: 0,
+            mark: 0,
         },
         PacketAnswer::Again(..) => Sighting {
             kind: 7,
             worker: 0,
             socket: 0,
+            mark: 0,
         },
     }
 }
@@ -76,6 +80,7 @@ fn told_of(found: &Option<PacketLook>) -> Sighting
             kind: 7,
             worker: 0,
             socket: 0,
+            mark: 0,
         },
     }
 }

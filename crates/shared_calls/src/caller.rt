@@ -115,6 +115,14 @@ impl Caller {
         self.machine.waiting() as u64
     }
 
+    /// Sets the mark that its sockets get from then on: 0 until it is set. A lookup answers a socket's mark beside its
+    /// number.
+    pub fn set_mark(&mut self, mark: u32)
+        ensures { self.new ≡ spec.with_mark self.old mark }
+    {
+        self.machine.set_mark(mark);
+    }
+
     /// Carries a command out, any but a lookup, whoever else is at the tables, and returns what comes of it. A command
     /// that makes a socket has the next number's label for it.
     ///

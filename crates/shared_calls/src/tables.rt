@@ -6,11 +6,10 @@ ghost use Rattle.shared_calls.specs.Sharings.{GivesCaller, GivesLooker, HasNoCal
 
 use crate::caller::Caller;
 use crate::looker::Looker;
-use bind_buckets::{Sharing, turning};
+use bind_buckets::Sharing;
 use flat_list::Header;
-use reuseport_group::Groups;
 use section_machine::{Machine, laws};
-use sock_ops::{ChainTable, Tables, Worker};
+use sock_ops::{Changes, Tables, Worker};
 use std::alloc::{AllocError, Global};
 use std::marker::Model;
 use std::sync::Arc;
@@ -69,19 +68,13 @@ impl SharedTables {
         requires { FitsTables header.now }
         ensures { IfOk result (IsNew header.now tag) }
     {
-        let (buckets, turns) = turning::with_buckets(alloc, header.shape.bind, Sharing::Shared)?;
-        let (chains, chain) = ChainTable::counting(alloc, header.shape, header.seed)?;
-        let (groups, passes) = Groups::new(alloc, 8 * header.shape.bind)?;
-        let tables = Tables {
-            buckets,
-            chains,
-            groups,
-        };
-        let first = Worker {
-            turns,
-            chain,
-            groups: passes,
-        };
+        let (tables, first) = Tables::new(
+            alloc,
+            header.shape,
+            header.seed,
+            Sharing::Shared,
+            Changes::Counted,
+        )?;
         Ok(SharedTables {
             tables: Arc::new(alloc, tables)?,
             header: *header,
@@ -120,11 +113,7 @@ impl SharedTables {
         };
         laws::section_begins();
         self.callers += 1;
-        let worker = Worker {
-            turns: turning::split(&tables.buckets, &mut self.first.turns),
-            chain: tables.chains.split(alloc, &mut self.first.chain),
-            groups: self.first.groups.split(&tables.groups),
-        };
+        let worker = self.first.split(alloc, &tables);
         let machine = Machine::numbered(alloc, &self.header, self.callers);
         Ok(Caller {
             tables,

@@ -5,6 +5,7 @@ pub mod Made
 pub mod Answers
 pub mod Socks
 pub mod Stands
+pub mod Tables
 pub mod Spends
 pub mod There
 pub mod Listens

@@ -11,7 +11,7 @@
 //! and changes make, comes to the same, say.
 //!
 //! ```text
-//! // `tables` and `worker` are those of a run or of a race.
+//! let (tables, mut worker) = Tables::new(alloc, shape, seed, Sharing::Alone, Changes::Counted)?;
 //! let socket = Sock::Unbound(Unbound::new(newcomer, options));
 //! let (socket, port) = bind(&Waits::by(&rt), &tables, &mut worker, socket, end, ports)?;
 //! ```
@@ -46,4 +46,4 @@ pub use reaping::reap_one;
 pub use requesting::syn;
 pub use sock::{Bound, Connected, Listening, Newcomer, Request, Sock, Unbound};
 pub use table_model::{Cause, OpEnd};
-pub use tables::{Tables, Worker};
+pub use tables::{Changes, Tables, Worker};

@@ -10,7 +10,7 @@ use Rattle.sock_script.specs.declared.shown.Brief.TheVariants as briefs
 -- a card that says a kind and a name, and nothing else
 abbrev pub bare_card : Kind → ℕ → Card
 bare_card kind name =
-    record { local = 0; lport = 0; remote = 0; rport = 0; dev = 0; net = 0; kind = kind; name = name; extra = 0 }
+    record { local = 0; lport = 0; remote = 0; rport = 0; dev = 0; net = 0; kind = kind; name = name; extra = 0; mark = 0 }
 
 -- a reply, with no more of a card that was found than its kind and its name
 abbrev pub shown : Reply → Reply

@@ -135,6 +135,33 @@ fn a_connection_is_found_by_its_callers_number_and_its_own(rt: HostRuntime) -> R
     Ok(())
 }
 
+/// The mark of the socket that a looker finds.
+fn mark(looker: &mut Looker) -> Option<u32> {
+    let PacketLook { end, .. } = looker.look(&PACKET, 1);
+    match end {
+        PacketAnswer::Found(card) => Some(card.mark),
+        PacketAnswer::None | PacketAnswer::Again(..) => None,
+    }
+}
+
+#[test]
+fn a_lookup_answers_the_mark_that_a_socket_was_given(rt: HostRuntime) -> Result<(), Fail> {
+    let (_tables, mut caller, mut looker) = open(rt.alloc())?;
+    caller.set_mark(11);
+    let (listener, _) = listen_here(&mut caller);
+    assert_eq!(rt; mark(&mut looker), Some(11));
+    caller.set_mark(u32::MAX);
+    let (child, _) = accept_there(&mut caller, listener);
+    assert_eq!(rt; mark(&mut looker), Some(u32::MAX));
+    caller.set_mark(12);
+    caller.call(&Tries(0), &commands::close(child));
+    assert_eq!(rt; mark(&mut looker), Some(u32::MAX));
+    caller.call(&Tries(0), &Command::At { moment: 60 });
+    caller.call(&Tries(0), &Command::Reap);
+    assert_eq!(rt; mark(&mut looker), Some(11));
+    Ok(())
+}
+
 #[test]
 fn callers_have_numbers_and_sockets_of_their_own(rt: HostRuntime) -> Result<(), Fail> {
     let (_tables, mut first, mut second) = open_two(rt.alloc())?;
@@ -355,6 +382,7 @@ fn a_lookup_begins_no_earlier_than_its_callers_clock(rt: HostRuntime) -> Result<
 fn a_batch_of_packets_is_answered_at_their_places(rt: HostRuntime) -> Result<(), Fail> {
     let (_tables, mut caller, mut looker) = open(rt.alloc())?;
     let (listener, _) = listen_here(&mut caller);
+    caller.set_mark(7);
     let (child, _) = accept_there(&mut caller, listener);
     let asked = Asking {
         src: THERE.addr,
@@ -373,6 +401,7 @@ fn a_batch_of_packets_is_answered_at_their_places(rt: HostRuntime) -> Result<(),
         kind: 0,
         worker: 0,
         socket: 0,
+        mark: 0,
     };
     let mut sightings = [nobody, nobody, nobody];
     looker.sight_all(&packets, 1, caller.now(), &mut sightings);
@@ -380,11 +409,13 @@ fn a_batch_of_packets_is_answered_at_their_places(rt: HostRuntime) -> Result<(),
         kind: 1,
         worker: 1,
         socket: child,
+        mark: 7,
     };
     let by_listener = Sighting {
         kind: 3,
         worker: 1,
         socket: listener,
+        mark: 0,
     };
     assert_eq!(rt; sightings, [found, nobody, by_listener]);
     looker.sight_all(&packets, 1, u64::MAX, &mut sightings);

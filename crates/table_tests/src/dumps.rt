@@ -4,14 +4,13 @@ ghost use Rattle.std.specs.Prelude.{◌≡◌, ◌+◌, ◌<◌, ◌≤◌, ◌^
 ghost use Rattle.sock_ops.specs.Stands.{IsAway, IsReady, MayDraw, MayEnter, StandsAs, chained, turned};
 ghost use Rattle.turn_table.specs.Passes as words;
 
-use bind_buckets::{Sharing, turning};
+use bind_buckets::Sharing;
 use chain_book::Shape;
 use flat_list::{First, NONE_RESERVED, Options, Range};
 use patience::Waits;
 use port_search::Ports;
 use race_run::dump;
-use reuseport_group::Groups;
-use sock_ops::{ChainTable, Newcomer, Sock, Tables, Unbound, Worker, listen};
+use sock_ops::{Changes, Newcomer, Sock, Tables, Unbound, Worker, listen};
 use socket_list::{Listing, Span};
 use std::alloc::{AllocError, Global};
 use std::sync::Wait;
@@ -41,19 +40,7 @@ fn empty(alloc: Global) -> Result<(Tables, Worker), AllocError>
     ensures enters { IfOk result (λ t. MayEnter 100 t.1) }
     ensures draws { IfOk result (λ t. MayDraw 100 t.1) }
 {
-    let (buckets, turns) = turning::with_buckets(alloc, SHAPE.bind, Sharing::Alone)?;
-    let (chains, chain) = ChainTable::new(alloc, SHAPE, 7)?;
-    let (groups, passes) = Groups::new(alloc, 8 * SHAPE.bind)?;
-    let tables = Tables {
-        buckets,
-        chains,
-        groups,
-    };
-    let worker = Worker {
-        turns,
-        chain,
-        groups: passes,
-    };
+    let (tables, worker) = Tables::new(alloc, SHAPE, 7, Sharing::Alone, Changes::Kept)?;
     Ok((tables, worker))
 }
 

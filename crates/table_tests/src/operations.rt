@@ -5,13 +5,12 @@ ghost use Rattle.turn_table.specs.Passes as words;
 ghost use Rattle.sock_ops.specs.Socks.{mine_of};
 ghost use Rattle.sock_ops.specs.Stands.{HasGroups, IsAway, IsReady, MayDraw, MayEnter, StandsAs, buckets_of, chained, turned};
 
-use bind_buckets::{Sharing, turning};
+use bind_buckets::Sharing;
 use chain_book::{Replace, Shape};
 use flat_list::{End, First, NONE_RESERVED, Options, Range};
 use patience::Waits;
 use port_search::Ports;
-use reuseport_group::{GroupPasses, Groups, name_of};
-use sock_ops::ChainTable;
+use reuseport_group::{GroupPasses, name_of};
 use sock_ops::binding::bind;
 use sock_ops::connecting::connect;
 use sock_ops::handshaking::ack;
@@ -20,7 +19,7 @@ use sock_ops::listening::listen;
 use sock_ops::reaping::reap_one;
 use sock_ops::requesting::syn;
 use sock_ops::sock::{Newcomer, Sock, Unbound};
-use sock_ops::tables::{Tables, Worker};
+use sock_ops::tables::{Changes, Tables, Worker};
 use std::alloc::{AllocError, Global};
 use std::sync::Wait;
 use std::test::Fail;
@@ -72,19 +71,7 @@ fn empty(alloc: Global, slots: u32) -> Result<(Tables, Worker), AllocError>
         hash: 2,
         listen: 1,
     };
-    let (buckets, turns) = turning::with_buckets(alloc, shape.bind, Sharing::Alone)?;
-    let (chains, chain) = ChainTable::new(alloc, shape, 7)?;
-    let (groups, passes) = Groups::new(alloc, 8 * shape.bind)?;
-    let tables = Tables {
-        buckets,
-        chains,
-        groups,
-    };
-    let worker = Worker {
-        turns,
-        chain,
-        groups: passes,
-    };
+    let (tables, worker) = Tables::new(alloc, shape, 7, Sharing::Alone, Changes::Kept)?;
     Ok((tables, worker))
 }
 

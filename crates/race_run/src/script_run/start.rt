@@ -8,10 +8,9 @@ ghost use Rattle.section_machine.specs.Carried.{MayCarry};
 ghost use Rattle.section_machine.specs.Standing.{AreOf};
 ghost use Rattle.table_model.specs.Tables.{new_tables};
 
-use bind_buckets::{Sharing, turning};
+use bind_buckets::Sharing;
 use flat_list::Header;
-use reuseport_group::Groups;
-use sock_ops::{ChainTable, Tables, Worker};
+use sock_ops::{Changes, Tables, Worker};
 use std::alloc::{AllocError, Global};
 
 /// Empty tables of that header, and the worker that is alone at them. Their chains keep no changes.
@@ -28,18 +27,12 @@ pub(crate) fn start(alloc: Global, header: &Header) -> Result<(Tables, Worker), 
     ensures unspoken { IfOk result (λ t. AreUnspoken 1 t.1) }
     ensures may { IfOk result (λ t. MayCarry (commands_after 0) t.1) }
 {
-    let (buckets, turns) = turning::with_buckets(alloc, header.shape.bind, Sharing::Alone)?;
-    let (chains, chain) = ChainTable::counting(alloc, header.shape, header.seed)?;
-    let (groups, passes) = Groups::new(alloc, 8 * header.shape.bind)?;
-    let tables = Tables {
-        buckets,
-        chains,
-        groups,
-    };
-    let worker = Worker {
-        turns,
-        chain,
-        groups: passes,
-    };
+    let (tables, worker) = Tables::new(
+        alloc,
+        header.shape,
+        header.seed,
+        Sharing::Alone,
+        Changes::Counted,
+    )?;
     Ok((tables, worker))
 }

@@ -93,6 +93,7 @@ cards_kept chains flat flat' head same h = record {
 pub own_kept : (n : ℕ) (own : Own) (t : Tables) (buckets : List Standing) (flat : Flat) → OwnMeans n own t flat → OwnMeans n own (with_buckets t buckets) flat
 own_kept n own t buckets flat h = record {
   number = h.number;
+  unmarked = h.unmarked;
   section = h.section;
   range = h.range;
   offset = h.offset;

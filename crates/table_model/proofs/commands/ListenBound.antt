@@ -262,6 +262,7 @@ module _ (n : ℕ) (own : Own) (t : Tables) (flat : Flat) (h : Means n own t fla
             };
             own_is = record {
               number = own_listens.number;
+              unmarked = own_listens.unmarked;
               section = own_listens.section;
               range = own_listens.range;
               offset = own_listens.offset;

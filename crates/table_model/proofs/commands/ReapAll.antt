@@ -235,6 +235,7 @@ module _ (n : ℕ) (own : Own) (t : Tables) (flat : Flat) (h : Means n own t fla
       let o : OwnMeans n own ended.tables (with_sockets flat ended.sockets) = ended.kept.own_is in
       record {
         number = o.number;
+        unmarked = o.unmarked;
         section = o.section;
         range = o.range;
         offset = o.offset;

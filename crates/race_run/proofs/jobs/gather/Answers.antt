@@ -51,7 +51,7 @@ loop-result-preserved c =
       few = omega (arith, less, i.few);
       before = still_before c.args.done.items c.loop-result.left.items c.pop.new.self.items c.in-Some.result n k i.few less i.before c.in-Some.ensures.items len c.in-Some.ensures.rest;
       joined = λ other. more c.args.done.items c.loop-result.left.items c.pop.new.self.items c.in-Some.result n k i.few less i.before c.in-Some.ensures.items len job c.in_ok-worker.was other
-          (part_of c.loop-result.first) (part_of c.join.new.first) (part_of job.worker) refl turns chain (i.joined other);
+          (part_of c.loop-result.first) (part_of c.join.new.self) (part_of job.worker) refl turns chain (i.joined other);
       counted = let more = one_more c.loop-result.given.items c.push.new.self.items (record { replies = job.replies; listings = job.listings; told = job.told }) c.in_ok-push.ensures.items in omega (arith, more, i.counted, less, len);
       outcomes = outcomes c.args.done.items c.loop-result.left.items c.pop.new.self.items c.in-Some.result n k i.few less i.before c.in-Some.ensures.items len job c.in_ok-worker.was c.loop-result.given.items c.push.new.self.items i.outcomes c.in_ok-push.ensures.items;
     }

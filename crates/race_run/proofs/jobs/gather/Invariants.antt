@@ -5,7 +5,8 @@ use Rattle.turn_table.specs.Passes as words
 use Rattle.race_run.specs.Jobs.{IsGathered, outcomes_in, part_in}
 use Rattle.race_run.specs.Joins.{Part}
 use Rattle.race_run.specs.Shares.{HasMissedAsThey, items_in}
-use Rattle.race_run.specs.Workers.{IsAtRest, part_of}
+use Rattle.race_run.specs.Workers.{part_of}
+use Rattle.sock_ops.specs.Tables.{IsAtRest}
 use Rattle.race_run.proofs.jobs.gather.Given as goal
 
 abbrev pub invariant-loop-result : goal.invariant-loop-result

@@ -10,29 +10,28 @@ use Rattle.race_run.proofs.start.start.Goals as goal
 
 pub returns : goal.returns
 returns c =
-    let b = c.in_ok-buckets.ensures in
-    let t = c.in_ok-chains.ensures in
-    let v = b.pass.2 in
-    let x = t.first in
-    let l = c.in_ok-groups.ensures in
+    let n = c.in_ok-tables.ensures in
+    let v = n.turns.2 in
+    let x = n.chain in
+    let l = n.published in
     let header = c.header-header.result.now in
     let fits : FitsTables header = subst FitsTables (sym c.header-header.ensures) c.requires in
-    let given : Tables = record { buckets = c.in_ok-buckets.buckets; chains = c.in_ok-chains.chains; groups = c.in_ok-groups.groups } in
+    let given : Tables = c.in_ok-tables.tables in
     let bind = fits.bind in
-    let are : AreTables header given = record { layout = t.layout; buckets = b.places; some = omega (arith, b.places, bind); shared = b.home; keeps = t.keeps } in
+    let are : AreTables header given = record { layout = n.layout; buckets = n.buckets; some = omega (arith, n.buckets, bind); shared = n.home; keeps = n.keeps_changes } in
     record {
       tables = subst (λ (h : Header). AreTables h given) c.header-header.ensures are;
       first = record {
         rest = record {
-          turns = b.pass.0;
-          free = b.pass.1;
-          rests = t.rests;
+          turns = n.turns.0;
+          free = n.turns.1;
+          rests = n.rests;
           nothing = record { holds = ap (λ (y : View). y.slot.holds) x; kept = ap (λ (y : View). y.read.kept) x; reader = ap (λ (y : View). y.read.reader) x };
-          groups = record { many = omega (arith, l.groups, b.places); passes = l.passes.0 };
+          groups = n.groups;
         };
         turn_parts = let e = ap (λ (y : BindView). y.parts) v in omega (arith, e);
         chain_parts = let e = ap (λ (y : View). y.slot.parts) x in omega (arith, e);
-        group_parts = let e = ap (λ (y : GroupView). y.parts) l.passes.1 in omega (arith, e);
+        group_parts = let e = ap (λ (y : GroupView). y.parts) l in omega (arith, e);
         caller = ap (λ (y : BindView). y.caller) v;
         splits = ap (λ (y : BindView). y.splits) v;
         seen = ap (λ (y : View). y.seen) x;

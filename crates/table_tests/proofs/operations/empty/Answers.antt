@@ -9,4 +9,4 @@ use Rattle.table_tests.proofs.operations.empty.Goals as goal
 pub returns-clause-away : goal.returns-clause-away
 returns-clause-away c = λ name.
     let v : View = first sharings.Alone in
-    subst (IsAway name) (sym c.in_ok-buckets.ensures.pass.2) (new_away name v (λ other. absurd (other refl)) (λ place. tt))
+    subst (IsAway name) (sym c.in_ok-tables.ensures.turns.2) (new_away name v (λ other. absurd (other refl)) (λ place. tt))

@@ -17,25 +17,24 @@ use Rattle.race_run.proofs.script_run.start.start.Goals as goal
 
 pub returns : goal.returns
 returns c =
-    let b = c.in_ok-buckets.ensures in
-    let t = c.in_ok-chains.ensures in
-    let v = b.pass.2 in
-    let x = t.first in
-    let l = c.in_ok-groups.ensures in
+    let n = c.in_ok-tables.ensures in
+    let v = n.turns.2 in
+    let x = n.chain in
+    let l = n.published in
     let mine = ap (λ (y : BindView). y.mine) v in
     let closed = ap (λ (y : View). y.book.closed) x in
     record {
-      counts = t.counts;
-      of = record { shape = ap (λ (y : Layout). y.shape) t.layout; seed = ap (λ (y : Layout). y.seed) t.layout; buckets = b.places };
+      counts = n.keeps_changes;
+      of = record { shape = ap (λ (y : Layout). y.shape) n.layout; seed = ap (λ (y : Layout). y.seed) n.layout; buckets = n.buckets };
       sole = record {
-        ready = record { idle = b.alone refl; rests = t.rests; groups = record { many = omega (arith, l.groups, b.places); passes = l.passes.0 } };
+        ready = record { idle = n.idle refl; rests = n.rests; groups = n.groups };
         turns = (ap (λ (y : BindView). y.caller) v, ap (λ (y : BindView). y.splits) v);
-        chains = subst IsNow (sym x) (first_now c.in_ok-chains.chains.layout);
+        chains = subst IsNow (sym x) (first_now c.in_ok-tables.tables.chains.layout);
         nothing = record { holds = ap (λ (y : View). y.slot.holds) x; kept = ap (λ (y : View). y.read.kept) x; reader = ap (λ (y : View). y.read.reader) x };
-        groups = ap (λ (y : GroupView). y.sole) l.passes.1;
-        listed = λ group below. ap (λ (y : GroupView). list_at group y.mine) l.passes.1 ∙ none_listed group ∙ ap (λ (xs : List (Placed Entry)). list_by xs group) (sym mine);
+        groups = ap (λ (y : GroupView). y.sole) l;
+        listed = λ group below. ap (λ (y : GroupView). list_at group y.mine) l ∙ none_listed group ∙ ap (λ (xs : List (Placed Entry)). list_by xs group) (sym mine);
       };
-      empty = (λ i. tables_by (b.places i) (mine i) (chains_of (t.layout i) (t.next i) (closed i))) ∙ tables_empty c.args.header.now.shape c.args.header.now.seed;
+      empty = (λ i. tables_by (n.buckets i) (mine i) (chains_of (n.layout i) (n.next i) (closed i))) ∙ tables_empty c.args.header.now.shape c.args.header.now.seed;
       unspoken = λ name least. subst (AllMiss name) (sym mine) tt;
       may = record {
         enters = let e = ap (λ (y : BindView). y.draws) v in omega (arith, e);
