@@ -77,13 +77,7 @@ fn first_so(first: Option<u64>, so: bool, number: u64) -> Option<u64>
 
 /// What is said where a line of that number and these words stands there too.
 #[tactic(auto, unfolding(crate::specs::Before::noted))]
-fn noted<'a>(
-    verb: Verb,
-    label: &[u8],
-    number: u64,
-    words: &'a [&'a [u8]],
-    before: Before,
-) -> Before
+fn noted<'a>(verb: Verb, label: &[u8], number: u64, words: &'a [&'a [u8]], before: Before) -> Before
     ensures { result ≡ spec.noted verb label.now number (texts words.now) before }
 {
     let alike = first_so(before.alike, begins(verb, words), number);

@@ -7,12 +7,7 @@ use capture_reader::HeadFlaw;
 use std::alloc::AllocError;
 
 /// Appends a text, a number, and a text.
-fn put_with_number(
-    out: &mut Vec<u8>,
-    front: &[u8],
-    n: u64,
-    behind: &[u8],
-) -> Result<(), AllocError>
+fn put_with_number(out: &mut Vec<u8>, front: &[u8], n: u64, behind: &[u8]) -> Result<(), AllocError>
     ensures { OnOk result (out.new.items ≡ out.old.items ++ spec.with_number front.now n behind.now) }
 {
     put(out, front)?;
@@ -54,7 +49,10 @@ fn put_flaw(out: &mut Vec<u8>, flaw: HeadFlaw) -> Result<(), AllocError>
             u64::from(n),
             b", which isn't read: capture on one interface, as by tcpdump -i eth0, and not on any",
         ),
-        HeadFlaw::CutSection => put(out, b"its first block is cut off: it has fewer than 28 bytes"),
+        HeadFlaw::CutSection => put(
+            out,
+            b"its first block is cut off: it has fewer than 28 bytes",
+        ),
         HeadFlaw::Mark => put(
             out,
             b"its first block lacks the mark of its order of bytes, 0x1a2b3c4d",

@@ -111,12 +111,7 @@ fn put_ports(out: &mut Vec<u8>, fault: PortsFault) -> Result<(), AllocError>
 }
 
 /// Appends a text, the number of a line, and a text.
-fn put_at_line(
-    out: &mut Vec<u8>,
-    front: &[u8],
-    line: u64,
-    behind: &[u8],
-) -> Result<(), AllocError>
+fn put_at_line(out: &mut Vec<u8>, front: &[u8], line: u64, behind: &[u8]) -> Result<(), AllocError>
     ensures { OnOk result (out.new.items ≡ out.old.items ++ spec.at_line front.now line behind.now) }
 {
     put(out, front)?;
@@ -148,7 +143,10 @@ fn put_misplace(out: &mut Vec<u8>, misplace: Misplace) -> Result<(), AllocError>
             line,
             b", which begins the section before",
         ),
-        Misplace::NotFirst => put(out, b"its number isn't 1, which is that of the first section"),
+        Misplace::NotFirst => put(
+            out,
+            b"its number isn't 1, which is that of the first section",
+        ),
         Misplace::Outside => put(
             out,
             b"no line script stands before it: a command belongs to the section that such a line begins",
