@@ -82,9 +82,9 @@ pub fn make(worker: &mut InetWorker, alloc: Global, mark: u32, command: &Command
         None => Outcome::NoTables,
         Some(mut limited) => {
             limited.caller.set_mark(mark);
-            let outcome = limited.call(command);
+            let made = limited.call(command);
             *worker = InetWorker::of(limited);
-            outcome
+            made
         }
     }
 }

@@ -1,6 +1,6 @@
 //! A listener that comes into its chain.
 
-ghost use Rattle.std.specs.Prelude.{◌≡◌, ◌+◌, ◌<◌, ◌≤◌, [], IfOk, IfSome, IfNone};
+ghost use Rattle.std.specs.Prelude.{◌≡◌, ◌+◌, ◌<◌, ◌≤◌, [], true, IfOk, IfSome, IfNone};
 ghost use Rattle.chain_book.specs.Homes.{home};
 ghost use Rattle.established.specs.Alone.{AddsAlone};
 ghost use Rattle.established.specs.Comings.{Adds};

@@ -91,7 +91,7 @@ IsAbout name (requests.RemoveWaiting n) = Unit {0}
 
 -- about a listener's child, or the end of its name where it didn't come to be
 abbrev pub IsBirth : ℕ → ℕ → Request → Type 0
-IsBirth parent name (requests.Inherit p n local remote rport) = (p ≡ parent) × (n ≡ name)
+IsBirth parent name (requests.Inherit p n mark local remote rport) = (p ≡ parent) × (n ≡ name)
 IsBirth parent name (requests.Remove n) = n ≡ name
 IsBirth parent name (requests.RemoveWaiting n) = Unit {0}
 IsBirth parent name _ = ⊥

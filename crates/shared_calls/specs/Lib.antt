@@ -7,3 +7,4 @@ pub mod Sharings
 pub mod Limits
 pub mod Order
 pub mod Batches
+pub mod Marks

@@ -2,12 +2,21 @@
 
 ghost use Rattle.shared_calls.specs.Asked.{LeftTells};
 ghost use Rattle.shared_calls.specs.Limits.{DropsWhereFull};
+ghost use Rattle.shared_calls.specs.Marks.{CardsHaveMarks, MarksAreGiven, MarksStay};
 ghost use Rattle.shared_calls.specs.Numbers.{NumbersAreNames};
 ghost use Rattle.shared_calls.specs.Order.{MeetsAsDone};
 
 /// What a number names is the socket of the name that has it in its lower 56 bits, and the caller's number above them.
 pub fn numbers_are_names()
     ensures { NumbersAreNames }
+{}
+
+/// A socket has the mark that the call gave which made it, in all its states, and so has each card under which it is
+/// hashed: the one that a lookup finds, too.
+pub fn marks_stay()
+    ensures given { MarksAreGiven }
+    ensures stay { MarksStay }
+    ensures cards { CardsHaveMarks }
 {}
 
 /// A connected socket whose `close` finds no slot free for its TIME_WAIT is closed as `drop` closes it.
