@@ -9,10 +9,10 @@ use Rattle.refusals.specs.declared.place.Misplace.{Misplace}
 use Rattle.refusals.specs.declared.place.Misplace.TheVariants as misplaces
 
 -- a line of the head: one of its kind was there, or a section has begun
-abbrev pub head_misplace : Before → Misplace
-head_misplace (record { section = section; alike = Some line; giver = giver }) = misplaces.Again line
-head_misplace (record { section = Some line; alike = None; giver = giver }) = misplaces.Late line
-head_misplace (record { section = None; alike = None; giver = giver }) = misplaces.Other
+abbrev pub head_misplace : Option ℕ → Option ℕ → Misplace
+head_misplace (Some line) section = misplaces.Again line
+head_misplace None (Some line) = misplaces.Late line
+head_misplace None None = misplaces.Other
 
 -- a line that begins a section: another one comes before it
 abbrev pub section_misplace : Option ℕ → Misplace
@@ -46,12 +46,12 @@ section_or (Some line) inside = inside
 
 -- why a line that begins with that verb can't stand behind lines that say so of it
 abbrev pub misplace_of : Mode → Verb → Before → Misplace
-misplace_of mode verbs.Table before = head_misplace before
-misplace_of mode verbs.Range before = head_misplace before
-misplace_of mode verbs.Reserved before = head_misplace before
-misplace_of mode verbs.Seed before = head_misplace before
-misplace_of mode verbs.Offset before = head_misplace before
-misplace_of mode verbs.TimeWaitReuse before = head_misplace before
+misplace_of mode verbs.Table before = head_misplace before.alike before.section
+misplace_of mode verbs.Range before = head_misplace before.alike before.section
+misplace_of mode verbs.Reserved before = head_misplace before.alike before.section
+misplace_of mode verbs.Seed before = head_misplace before.alike before.section
+misplace_of mode verbs.Offset before = head_misplace before.alike before.section
+misplace_of mode verbs.TimeWaitReuse before = head_misplace before.alike before.section
 misplace_of mode verbs.Script before = section_misplace before.section
 misplace_of mode verbs.Capture before = misplaces.Other
 misplace_of mode verb before = section_or before.section (command_misplace mode verb before)

@@ -1,5 +1,5 @@
 //! The first line of a text that is outside the grammar, and why.
-ghost use Rattle.std.specs.Prelude.{IfOk};
+ghost use Rattle.std.specs.Prelude.{◌≡◌, IfOk};
 ghost use Rattle.sock_script.specs.Words.{lines_of as all_lines};
 ghost use Rattle.sock_script.specs.Grammar as grammar;
 ghost use Rattle.sock_script.specs.Grammar.{IsFirstOutside, IsScript};

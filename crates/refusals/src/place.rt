@@ -27,10 +27,10 @@ pub enum Misplace {
     Other,
 }
 
-fn head_misplace(before: Before) -> Misplace
-    ensures { result ≡ spec.head_misplace before }
+fn head_misplace(alike: Option<u64>, section: Option<u64>) -> Misplace
+    ensures { result ≡ spec.head_misplace alike section }
 {
-    match (before.alike, before.section) {
+    match (alike, section) {
         (Some(line), _) => Misplace::Again(line),
         (None, Some(line)) => Misplace::Late(line),
         (None, None) => Misplace::Other,
@@ -93,7 +93,7 @@ pub fn misplace_of(mode: Mode, verb: Verb, before: Before) -> Misplace
         | Verb::Reserved
         | Verb::Seed
         | Verb::Offset
-        | Verb::TimeWaitReuse => head_misplace(before),
+        | Verb::TimeWaitReuse => head_misplace(before.alike, before.section),
         Verb::Script => section_misplace(before.section),
         Verb::Capture => Misplace::Other,
         _ => section_or(before.section, command_misplace(mode, verb, before)),
