@@ -206,6 +206,8 @@ int inet_worker_close(struct inet_worker *worker, uint64_t socket, bool *waits);
 int inet_worker_drop(struct inet_worker *worker, uint64_t socket);
 int inet_worker_at(struct inet_worker *worker, uint32_t moment);
 int inet_worker_reap(struct inet_worker *worker, uint64_t *count);
+/* The same, of `most` TIME_WAITs at most; `more` says whether more of them have lasted 60 seconds. */
+int inet_worker_reap_most(struct inet_worker *worker, uint64_t most, uint64_t *count, bool *more);
 /* The lowest number above `after` that names an open socket of the worker, or 0 where none does, so from 0 on all of
  * them, one after the other. Takes no memory and no time for sockets that are gone. */
 int inet_worker_next_open(struct inet_worker *worker, uint64_t after, uint64_t *socket);

@@ -66,7 +66,7 @@ int main(void) {
     uint64_t listener, socket, clock, count;
     uint32_t number;
     uint16_t port;
-    bool waits;
+    bool waits, more;
     must(inet_tables_new(&tables, &sizes, 1), "new");
     must(inet_tables_worker(&tables, &limits, &worker, &number), "worker");
     must(inet_tables_looker(&tables, &looker), "looker");
@@ -86,8 +86,13 @@ int main(void) {
     must(inet_worker_close(&worker, socket, &waits), "close");
     tell(&worker, socket);
     tell_left(&worker);
+    must(inet_worker_accept(&worker, listener, CLIENT, 4001, PROXY, 80, 0, &socket), "accept");
+    must(inet_worker_close(&worker, socket, &waits), "close");
     must(inet_worker_at(&worker, 60), "at");
-    must(inet_worker_reap(&worker, &count), "reap");
+    must(inet_worker_reap_most(&worker, 1, &count, &more), "reap");
+    printf("over of one at most: %" PRIu64 ", %s\n", count, more ? "and there are more" : "and there are no more");
+    must(inet_worker_reap_most(&worker, 1, &count, &more), "reap");
+    printf("over of one at most: %" PRIu64 ", %s\n", count, more ? "and there are more" : "and there are no more");
     tell_left(&worker);
     inet_looker_free(&looker);
     inet_worker_free(&worker);

@@ -181,6 +181,7 @@ unsafe extern "C" {
     fn inet_worker_drop(worker: &mut Worker, socket: u64) -> i32;
     fn inet_worker_at(worker: &mut Worker, moment: u32) -> i32;
     fn inet_worker_reap(worker: &mut Worker, count: &mut u64) -> i32;
+    fn inet_worker_reap_most(worker: &mut Worker, most: u64, count: &mut u64, more: &mut bool) -> i32;
     fn inet_worker_next_open(worker: &mut Worker, after: u64, socket: &mut u64) -> i32;
     fn inet_worker_ask(worker: &mut Worker, socket: u64, item: &mut RawItem) -> i32;
     fn inet_worker_left(worker: &mut Worker, left: &mut RawLeft) -> i32;
@@ -417,6 +418,14 @@ impl Worker {
         // SAFETY: see above.
         done(unsafe { inet_worker_reap(self, &mut count) })?;
         Ok(count)
+    }
+
+    /// How many, and whether there are more.
+    pub fn reap_most(&mut self, most: u64) -> Result<(u64, bool), Errno> {
+        let (mut count, mut more) = (0, false);
+        // SAFETY: see above.
+        done(unsafe { inet_worker_reap_most(self, most, &mut count, &mut more) })?;
+        Ok((count, more))
     }
 
     /// The open socket of the lowest number above that one, if there is one.

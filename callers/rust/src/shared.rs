@@ -147,6 +147,12 @@ impl Worker {
     pub fn reap(&mut self) -> Result<u64, Errno> {
         self.handle.reap()
     }
+
+    /// [`Worker::reap`] of so many TIME_WAITs at most: how many were there, and whether more of them have lasted 60
+    /// seconds.
+    pub fn reap_most(&mut self, most: u64) -> Result<(u64, bool), Errno> {
+        self.handle.reap_most(most)
+    }
 }
 
 /// A looker in shared tables: its lookups lock nothing, wait for nobody and take no memory.

@@ -2,6 +2,7 @@
 pub mod Owned
 pub mod Calls
 pub mod Opened
+pub mod Reaped
 pub mod Asked
 pub mod Made
 pub mod Handed

@@ -19,6 +19,7 @@ pub mod lookers;
 pub mod making;
 pub mod opened;
 mod parts;
+pub mod reaped;
 pub mod returning;
 pub mod seen;
 pub mod shared;

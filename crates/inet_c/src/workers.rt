@@ -3,7 +3,7 @@
 //! Each call answers 0 or a number of errno(3), and writes what else it reports through its last references. `alloc`
 //! takes no place among the arguments in C.
 
-ghost use Rattle.std.specs.Prelude.{◌≡◌, None, pos};
+ghost use Rattle.std.specs.Prelude.{◌≡◌, None, Result, pos};
 ghost use Rattle.flat_calls.specs.Commands as commands;
 ghost use Rattle.flat_calls.specs.Errnos as told;
 ghost use Rattle.flat_calls.specs.declared.outcome.Outcome.{Outcome};
@@ -11,16 +11,19 @@ ghost use Rattle.inet_c.specs.Asked.{TellsClock, TellsLeft, TellsNextOver, Tells
 ghost use Rattle.inet_c.specs.Calls.{WorkerCalled, WorkerMakes, next_of_worker};
 ghost use Rattle.inet_c.specs.Opened.{TellsOpen};
 ghost use Rattle.inet_c.specs.Owned.{held};
+ghost use Rattle.inet_c.specs.Reaped as reapings;
+ghost use Rattle.inet_c.specs.Reaped.{WorkerReaps};
 ghost use Rattle.inet_c.specs.Returned as returned;
 ghost use Rattle.inet_c.specs.Returned.{WorkerReturns};
 ghost use Rattle.inet_c.specs.Words as words;
 ghost use Rattle.inet_c.specs.Words.{AreOptions};
 ghost use Rattle.inet_c.specs.declared.errno.TheConstants.{EINVAL};
 ghost use Rattle.inet_c.specs.declared.returning.Returning.{Returning};
+ghost use Rattle.section_machine.specs.declared.reaping.Gone.{Gone};
 
 use crate::errno::EINVAL;
 use crate::kinds::{InetTables, InetWorker};
-use crate::{asked, calls, opened, returning, words};
+use crate::{asked, calls, opened, reaped, returning, words};
 use flat_calls::outcome::{count_of, end_of, errno_of, leaves_time_wait};
 use flat_calls::{Item, commands};
 use flat_list::{Command, End};
@@ -338,4 +341,24 @@ pub extern "C" fn inet_worker_reap(worker: &mut InetWorker, alloc: Global, count
     let outcome = calls::call_worker(worker, alloc, &Command::Reap);
     *count = count_of(outcome);
     errno_of(outcome)
+}
+
+/// [`inet_worker_reap`] of `most` TIME_WAITs at most. `more` says whether more of them have lasted 60 seconds.
+#[unsafe(no_mangle)]
+pub extern "C" fn inet_worker_reap_most(
+    worker: &mut InetWorker,
+    alloc: Global,
+    most: u64,
+    count: &mut u64,
+    more: &mut bool,
+) -> i32
+    ensures { (reaping : Result Gone Outcome)
+        × WorkerReaps (held worker.old.boxed) (held worker.new.boxed) most reaping
+        × (result ≡ pos (reapings.errno_of reaping)) × (count.new ≡ reapings.count_of reaping)
+        × (more.new ≡ reapings.has_more reaping) }
+{
+    let reaping = reaped::reap_most(worker, alloc, most);
+    *count = reaped::count_of(reaping);
+    *more = reaped::has_more(reaping);
+    reaped::errno_of(reaping)
 }

@@ -267,27 +267,40 @@ module _ (t : Tables) (header : Header) (l : Labelled) (moment : ℕ) (o : Offse
   unfolding plan
   reap_plan = refl
 
-  reaps_left : StopsReaping header.shape.bind waits moment (turned w) (turned u) (chained t w) (chained t u) after → IsLeftOff t (kept header the_own) commands.Reap (kept header (own_of l moment o after)) w u
+  -- so far, and so many of those were still there
+  abbrev pub ReapsSoMany : ℕ → Kept → Type 0
+  ReapsSoMany n k = (left : IsLeftOff t k commands.Reap (kept header (own_of l moment o after)) w u) × (left.leaves.count ≡ n)
+
+  abbrev StopsAt : (count n : ℕ) → Type 0
+  StopsAt count n = (s : StopsReaping count waits moment (turned w) (turned u) (chained t w) (chained t u) after) × (s.reaped ≡ n)
+
+  reaps_left : (s : StopsReaping header.shape.bind waits moment (turned w) (turned u) (chained t w) (chained t u) after) → ReapsSoMany s.reaped (kept header the_own)
   reaps_left s =
-      let rest = plans.reap_each (filter (is_over moment) after) s.reaped in
-      record {
-        rest = and_then rest reaped_all;
-        deeds = s.went.deeds;
-        leads = subst (λ (q : Asking Replied). Leads q s.went.deeds (and_then rest reaped_all)) (sym reap_plan) (leads_then reaped_all (plans.reap waits moment) rest s.went.deeds s.went.leads);
-        back = [];
-        gives = refl;
-        gave = subst (Gave (turned w) (turned u)) (sym (append-nil (entries_in header.shape.bind s.went.deeds))) s.went.gave;
-        does = s.went.does;
-        still = λ other. absurd (other refl);
-        undecided = inl (undecided_then reaped_all rest [] (asks_on moment s.reaped after s.front.at s.front.first));
-        leaves = record { front = s.front; count = s.reaped; reaps = s.went.leads; rest = refl };
-      }
+      let rest = plans.reap_each (filter (is_over moment) after) s.reaped in (
+        record {
+          rest = and_then rest reaped_all;
+          deeds = s.went.deeds;
+          leads = subst (λ (q : Asking Replied). Leads q s.went.deeds (and_then rest reaped_all)) (sym reap_plan) (leads_then reaped_all (plans.reap waits moment) rest s.went.deeds s.went.leads);
+          back = [];
+          gives = refl;
+          gave = subst (Gave (turned w) (turned u)) (sym (append-nil (entries_in header.shape.bind s.went.deeds))) s.went.gave;
+          does = s.went.does;
+          still = λ other. absurd (other refl);
+          undecided = inl (undecided_then reaped_all rest [] (asks_on moment s.reaped after s.front.at s.front.first));
+          leaves = record { front = s.front; count = s.reaped; reaps = s.went.leads; rest = refl };
+        },
+        refl,
+      )
+
+  pub reap_left_behind : (k : Kept) → kept header the_own ≡ k → AreOf k.header t → (n : ℕ) (s : StopsReaping (buckets_of t) waits moment (turned w) (turned u) (chained t w) (chained t u) after) → s.reaped ≡ n → ReapsSoMany n k
+  reap_left_behind k view are n s many =
+      let its : AreOf header t = subst (λ (x : Kept). AreOf x.header t) (sym view) are in
+      let stops : StopsAt header.shape.bind n = subst (λ (count : ℕ). StopsAt count n) its.buckets (s, many) in
+      let left = reaps_left stops.0 in
+      subst (ReapsSoMany n) view (left.0, left.1 ∙ stops.1)
 
   pub reap_left : (k : Kept) → kept header the_own ≡ k → AreOf k.header t → StopsReaping (buckets_of t) waits moment (turned w) (turned u) (chained t w) (chained t u) after → IsLeftOff t k commands.Reap (kept header (own_of l moment o after)) w u
-  reap_left k view are s =
-      let its : AreOf header t = subst (λ (x : Kept). AreOf x.header t) (sym view) are in
-      subst (λ (x : Kept). IsLeftOff t x commands.Reap (kept header (own_of l moment o after)) w u) view
-      (reaps_left (subst (λ (n : ℕ). StopsReaping n waits moment (turned w) (turned u) (chained t w) (chained t u) after) its.buckets s))
+  reap_left k view are s = (reap_left_behind k view are s.reaped s refl).0
 
 -- a socket whose label isn't given
 pub made_none : (t : Tables) (old new : Kept) (label : List ℕ) (options : Options) (w : Worker) → new ≡ old → IsLeftOff t old (commands.Socket label options) new w w

@@ -17,6 +17,7 @@ mod Moments
 mod Published
 mod Reaps
 mod Reaped
+mod ReapsMost
 mod Made
 mod Steps
 mod Given

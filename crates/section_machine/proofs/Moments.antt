@@ -1,5 +1,5 @@
 -- A section at another moment, and with another mark.
-use Rattle.std.proofs.Common.{◌≡◌, ◌≤◌, ℕ, List, cond, ap, subst, sym}
+use Rattle.std.proofs.Common.{◌≡◌, ◌≤◌, ℕ, List, cond, ap, ◌∙◌, subst, sym}
 use Rattle.std.proofs.lemmas.Bool.{le-ltb}
 use Rattle.flat_list.specs.declared.header.Header.{Header}
 use Rattle.flat_list.specs.declared.command.Reply.TheVariants as replies

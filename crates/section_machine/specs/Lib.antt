@@ -8,5 +8,6 @@ pub mod Standing
 pub mod Carried
 pub mod Searches
 pub mod LeftOff
+pub mod Reaping
 -- Worked rows and laws.
 pub mod Begins

@@ -1,19 +1,21 @@
 //! The commands by which sockets of a section end: `close`, `drop` and `reap`.
 
-ghost use Rattle.std.specs.Prelude.{◌≡◌, true, IfOk, IfErr, OnErr};
+ghost use Rattle.std.specs.Prelude.{◌≡◌, ◌+◌, ◌≤◌, true, length, IfOk, IfErr, OnErr};
 ghost use Rattle.turn_table.specs.Passes as words;
 ghost use Rattle.flat_list.specs.declared.command.Command.TheVariants as variants;
 ghost use Rattle.table_model.specs.Own.{open_socket};
 ghost use Rattle.table_model.specs.Commands as commands;
 ghost use Rattle.table_model.specs.declared.operation.Cause.TheVariants as causes;
 ghost use Rattle.sock_ops.specs.Groups.{KeepsLists};
-ghost use Rattle.sock_ops.specs.Stands.{IsReady};
+ghost use Rattle.sock_ops.specs.Stands.{IsReady, chained, turned};
 ghost use Rattle.section_machine.specs.Carried.{Carries, HasEnough, Spends};
-ghost use Rattle.section_machine.specs.LeftOff.{IsLeftOff};
+ghost use Rattle.section_machine.specs.LeftOff.{IsLeftOff, LeftOff};
+ghost use Rattle.section_machine.specs.Reaping.{ReapsMost};
 ghost use Rattle.section_machine.specs.Sections.{GivesLabels, KeepsHeader};
 ghost use Rattle.section_machine.specs.Standing.{IsSection};
 
 use crate::machine::Machine;
+use crate::reaping::Gone;
 use crate::waits::cause_of;
 use flat_list::{Label, Reply};
 use patience::Patience;
@@ -123,5 +125,37 @@ impl Machine {
     {
         let count = self.waits.reap(patience, tables, worker, self.moment)?;
         Ok(Reply::Count(count))
+    }
+
+    /// [`Machine::try_step`] of `reap`, which looks for so many TIME_WAITs at most.
+    ///
+    /// # Errors
+    ///
+    /// As there.
+    pub fn reap_most<P: Patience>(
+        &mut self,
+        patience: &P,
+        tables: &Tables,
+        worker: &mut Worker,
+        most: u64,
+    ) -> Result<Gone, Cause>
+        requires section { IsSection tables.now self.old worker.old }
+        requires enough { HasEnough self.old worker.old }
+        ensures section { IsSection tables.now self.new worker.new }
+        ensures reaps { IfOk result (ReapsMost self.old.header self.old.own most (turned worker.old) (turned worker.new)
+            (chained tables.now worker.old) (chained tables.now worker.new) self.new.own) }
+        ensures most { length self.old.own.waits ≤ length self.new.own.waits + most }
+        ensures left { OnErr result (LeftOff self.old.header self.old.own variants.Reap (turned worker.old)
+            (turned worker.new) (chained tables.now worker.old) (chained tables.now worker.new) self.new.own) }
+        ensures ready { IsReady tables.now worker.new }
+        ensures caller { words.caller worker.new.turns ≡ words.caller worker.old.turns }
+        ensures spends { Spends self.old self.new worker.old worker.new }
+        ensures listed { KeepsLists tables.now worker.old worker.new }
+        ensures kept { KeepsHeader self.old self.new }
+        ensures labels { self.new.own.labels ≡ self.old.own.labels }
+        ensures patient { P.endless ≡ true → IfErr result (λ cause. cause ≡ causes.Memory) }
+    {
+        self.waits
+            .reap_most(patience, tables, worker, self.moment, most)
     }
 }

@@ -24,10 +24,11 @@ pub mod laws;
 pub mod machine;
 mod meeting;
 pub mod offsets;
-mod reaping;
+pub mod reaping;
 pub mod waits;
 
 pub use labels::Labels;
 pub use machine::Machine;
 pub use offsets::Offsets;
+pub use reaping::Gone;
 pub use waits::Waits;

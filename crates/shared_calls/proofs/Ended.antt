@@ -48,7 +48,7 @@ ended_deed deed c d made were =
     (each_weaken (λ (x : Change). x.end < c.view.seen) (λ (x : Change). x.end < d.view.seen) (changes_by c) (λ x early. omega (arith, later, early)) were)
     (end_drawn (λ (n : ℕ). n < d.view.seen) deed (each_weaken (λ (n : ℕ). (c.view.seen ≤ n) × (n < d.view.seen)) (λ (n : ℕ). n < d.view.seen) (drawn_of deed) (λ n within. within.1) made.numbers)))
 
-ended_deeds : (deeds : List Deed) (c d : Side) → AllLeave deeds c d → AllEnded c → AllEnded d
+pub ended_deeds : (deeds : List Deed) (c d : Side) → AllLeave deeds c d → AllEnded c → AllEnded d
 ended_deeds [] c d same were = subst AllEnded same were
 ended_deeds (entered port note ∷ deeds) c d leaves were = ended_deeds deeds leaves.0 d leaves.2 (subst AllEnded leaves.1 were)
 ended_deeds (inserted wish tried ∷ deeds) c d leaves were =

@@ -1,6 +1,7 @@
 mod Numbers
 mod Ended
 mod Callings
+mod Reapings
 mod Order
 mod LeftOver
 mod Batches

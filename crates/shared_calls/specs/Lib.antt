@@ -5,6 +5,7 @@ pub mod Asked
 pub mod Lookings
 pub mod Sharings
 pub mod Limits
+pub mod Reapings
 pub mod Order
 pub mod Batches
 pub mod Marks

@@ -67,7 +67,7 @@ fn kept_back(command: &Command) -> u64
 }
 
 /// The worker can make entries for a command, for the reaping of the section's TIME_WAITs, and so many more.
-fn has_entries(tables: &Tables, worker: &Worker, machine: &Machine, more: u64) -> bool
+pub(crate) fn has_entries(tables: &Tables, worker: &Worker, machine: &Machine, more: u64) -> bool
     requires { IsPassOf tables.now.buckets worker.now.turns }
     ensures { IsTrue result ↔ MayEnter (65540 + length machine.now.own.waits + more) worker.now }
 {
@@ -77,7 +77,7 @@ fn has_entries(tables: &Tables, worker: &Worker, machine: &Machine, more: u64) -
 }
 
 /// The worker has numbers of the clock for a command, for the reaping of the section's TIME_WAITs, and so many more.
-fn has_stamps(worker: &Worker, machine: &Machine, more: u64) -> bool
+pub(crate) fn has_stamps(worker: &Worker, machine: &Machine, more: u64) -> bool
     ensures { IsTrue result
         ↔ (drawn_by worker.now.chain.pass + 7 + 2 * length machine.now.own.waits + more ≤ 2 ^ 48) }
 {

@@ -23,6 +23,7 @@ pub mod caller;
 pub mod laws;
 pub mod limited;
 pub mod looker;
+pub mod reaping;
 pub mod tables;
 
 pub use asked::Left;

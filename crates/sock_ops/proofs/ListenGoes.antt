@@ -128,22 +128,22 @@ module _ (count : ℕ) (a : Owner) (took : Bool) (v w : View) (c d : Side) where
         undecided = tt;
       }
 
-  pub listen_full : (group : Option ℕ) (l : Owner) (extra : ℕ) (card : Card) (end : OpEnd)
+  pub listen_full : {X : Type 0} (at : X → Place) (group : Option ℕ) (l : Owner) (extra : ℕ) (card : Card) (end : OpEnd)
       → l ≡ as_listener a → extra ≡ option_map_or (λ (n : ℕ). n + 1) group 0 → card ≡ card_as kinds.Listen l extra
-      → AddsAs card c d (Err end) → AskedAll (owner_key a % count) (asked_listen a (answers.Group group) ∷ gone_if took a) v w
+      → AddsAs at card c d (Err end) → AskedAll (owner_key a % count) (asked_listen a (answers.Group group) ∷ gone_if took a) v w
       → CarriedOut {X = Mine} done refused count a.name plan v w c d (Err end)
-  listen_full group l extra card (errors.Full owned held) l_is extra_is card_is adds all =
+  listen_full at group l extra card (errors.Full owned held) l_is extra_is card_is adds all =
       full_goes group card owned held (card_is ∙ ap (λ (o : Owner). card_as kinds.Listen o extra) l_is ∙ ap (card_as kinds.Listen (as_listener a)) extra_is) adds
       (all_first (owner_key a % count) (asked_listen a (answers.Group group)) (gone_if took a) v w all)
-  listen_full group l extra card (errors.InUse name) l_is extra_is card_is adds all = absurd adds
-  listen_full group l extra card errors.NoPort l_is extra_is card_is adds all = absurd adds
-  listen_full group l extra card (errors.Taken name) l_is extra_is card_is adds all = absurd adds
-  listen_full group l extra card errors.Inval l_is extra_is card_is adds all = absurd adds
-  listen_full group l extra card errors.IsConn l_is extra_is card_is adds all = absurd adds
-  listen_full group l extra card errors.GroupFull l_is extra_is card_is adds all = absurd adds
-  listen_full group l extra card errors.GroupsFull l_is extra_is card_is adds all = absurd adds
-  listen_full group l extra card (errors.LeftOff causes.Memory) l_is extra_is card_is adds all = absurd adds
-  listen_full group l extra card (errors.LeftOff causes.Busy) l_is extra_is card_is adds all =
+  listen_full at group l extra card (errors.InUse name) l_is extra_is card_is adds all = absurd adds
+  listen_full at group l extra card errors.NoPort l_is extra_is card_is adds all = absurd adds
+  listen_full at group l extra card (errors.Taken name) l_is extra_is card_is adds all = absurd adds
+  listen_full at group l extra card errors.Inval l_is extra_is card_is adds all = absurd adds
+  listen_full at group l extra card errors.IsConn l_is extra_is card_is adds all = absurd adds
+  listen_full at group l extra card errors.GroupFull l_is extra_is card_is adds all = absurd adds
+  listen_full at group l extra card errors.GroupsFull l_is extra_is card_is adds all = absurd adds
+  listen_full at group l extra card (errors.LeftOff causes.Memory) l_is extra_is card_is adds all = absurd adds
+  listen_full at group l extra card (errors.LeftOff causes.Busy) l_is extra_is card_is adds all =
       busy_goes group adds (all_first (owner_key a % count) (asked_listen a (answers.Group group)) (gone_if took a) v w all)
 
   -- the bucket refused it

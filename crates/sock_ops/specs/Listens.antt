@@ -57,11 +57,11 @@ pub record FindsNoSlot (card : Card) (owned held : ℕ) (c d : Side) : Type 0 wh
   pub does : Does (added card (no_slot number owned held) ∷ []) c d
 
 -- a listener's card was hashed at that place, or found no slot, or its chain wasn't had
-abbrev pub AddsAs : Card → Side → Side → Result Place OpEnd → Type 0
-AddsAs card c d (Ok place) = ComesTo card place c d
-AddsAs card c d (Err (errors.Full owned held)) = FindsNoSlot card owned held c d
-AddsAs card c d (Err (errors.LeftOff causes.Busy)) = c ≡ d
-AddsAs card c d (Err end) = ⊥
+abbrev pub AddsAs : {X : Type 0} → (X → Place) → Card → Side → Side → Result X OpEnd → Type 0
+AddsAs at card c d (Ok x) = ComesTo card (at x) c d
+AddsAs at card c d (Err (errors.Full owned held)) = FindsNoSlot card owned held c d
+AddsAs at card c d (Err (errors.LeftOff causes.Busy)) = c ≡ d
+AddsAs at card c d (Err end) = ⊥
 
 -- what an owner asks that would listen, and that listens
 abbrev pub asked_listen : Owner → Answer → Entry

@@ -31,7 +31,7 @@ use crate::chains::{self, ChainPass, ChainTable};
 use crate::room::begin_with;
 use crate::sock::{Connected, Listening, Request, Sock};
 use crate::tables::{Tables, Worker};
-use crate::{asking, group_lists};
+use crate::{asking, order};
 use bind_buckets::{Bucket, turning};
 use chain_book::Place;
 use flat_list::owned;
@@ -202,14 +202,14 @@ fn wait_in<P: Patience>(
             }))
         }
         Err(slots) => {
-            group_lists::leave(
+            let unlisted = order::leave(
                 tables,
                 &mut worker.turns,
                 &mut worker.groups,
                 &mut turn,
                 &full.owner,
             );
-            turning::give(&tables.buckets, &mut worker.turns, turn);
+            unlisted.give(&tables.buckets, &mut worker.turns, turn);
             Ok(Closed::NoSlot {
                 owned: slots.owned,
                 held: slots.held,
@@ -287,8 +287,8 @@ fn leave_port<P: Patience>(
     let Some(mut turn) = asking::take(patience, &tables.buckets, pass, owner) else {
         return Err(Cause::Busy);
     };
-    group_lists::leave(tables, pass, passes, &mut turn, owner);
-    turning::give(&tables.buckets, pass, turn);
+    let unlisted = order::leave(tables, pass, passes, &mut turn, owner);
+    unlisted.give(&tables.buckets, pass, turn);
     Ok(())
 }
 
@@ -332,15 +332,15 @@ fn leave_chain<P: Patience>(
         turning::give(&tables.buckets, &mut worker.turns, turn);
         return Err(Cause::Busy);
     };
-    group_lists::leave(
+    let unlisted = order::leave(
         tables,
         &mut worker.turns,
         &mut worker.groups,
         &mut turn,
         owner,
     );
-    chains::remove(&tables.chains, &mut worker.chain, locked, place);
-    turning::give(&tables.buckets, &mut worker.turns, turn);
+    let unhashed = unlisted.remove(&tables.chains, &mut worker.chain, locked, place);
+    unhashed.give(&tables.buckets, &mut worker.turns, turn);
     Ok(())
 }
 

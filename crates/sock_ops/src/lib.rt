@@ -28,6 +28,7 @@ mod hashing;
 pub mod laws;
 pub mod leaving;
 pub mod listening;
+mod order;
 pub mod reaping;
 pub mod requesting;
 mod room;

@@ -6,9 +6,7 @@ ghost use Rattle.sock_card.specs.Conflict.{owner_key};
 ghost use Rattle.sock_card.specs.declared.card.Kind.TheVariants as kinds;
 ghost use Rattle.turn_table.specs.Passes as words;
 ghost use Rattle.turn_table.specs.Passes.{known};
-ghost use Rattle.table_rule.specs.Passes as chain_words;
-ghost use Rattle.table_rule.specs.Calls.{HasShares};
-ghost use Rattle.nulls_chain.specs.Changes.{PlacesStay, TwoDrawn};
+ghost use Rattle.nulls_chain.specs.Changes.{PlacesStay};
 ghost use Rattle.bind_buckets.specs.declared.request.Answer.TheVariants as answers;
 ghost use Rattle.bind_buckets.specs.declared.request.Entry.{Entry};
 ghost use Rattle.bind_buckets.specs.declared.request.Request.TheVariants as requests;
@@ -16,30 +14,28 @@ ghost use Rattle.bind_buckets.specs.Answers.{answer_of_end};
 ghost use Rattle.bind_buckets.specs.Bucket.{entries_of, answer_to};
 ghost use Rattle.bind_buckets.specs.Callers.{MayName};
 ghost use Rattle.bind_buckets.specs.Turned.{View, IsIdle, IsOut, Within, made};
-ghost use Rattle.sock_ops.specs.Sides.{HasRoom, IsResting, side_of};
+ghost use Rattle.sock_ops.specs.Sides.{HasRoom, IsResting};
 ghost use Rattle.table_model.specs.Asking.{ends};
 ghost use Rattle.table_model.specs.Operations as plans;
 ghost use Rattle.sock_ops.specs.Goes.{AskedAll, CarriedOut, HoldsAfter, NotBusy, gone_if};
 ghost use Rattle.sock_ops.specs.Groups.{GaveBack, KeepsLists, ListsOfListen, StartsLists, StartsUnbound};
 ghost use Rattle.sock_ops.specs.Listens as spec;
-ghost use Rattle.sock_ops.specs.Listens.{AddsAs, IsKnownEnd, SaysListen, TellsAs, asked_listen};
+ghost use Rattle.sock_ops.specs.Listens.{IsKnownEnd, SaysListen, TellsAs, asked_listen};
 ghost use Rattle.sock_ops.specs.Socks.{mine_of, first_mine, without_socket};
 ghost use Rattle.sock_ops.specs.Stands.{HasGroups, IsAway, IsHashed, IsOwner, IsReady, IsThere, MayDraw, MayEnter, MayTell, StandsAs, buckets_of, chained, turned};
 ghost use Rattle.sock_ops.specs.Spends.{Draws};
 
-use crate::chains::{self, ChainPass, ChainTable};
 use crate::room::begin_with;
 use crate::sock::{Listening, Sock};
 use crate::tables::{Tables, Worker};
-use crate::{asking, group_lists};
+use crate::{asking, order};
 use bind_buckets::{Bucket, ListenEnd, turning};
-use chain_book::Place;
 use flat_list::owned;
 use patience::Patience;
 use port_search::turning::find_bind_turn;
 use port_search::{Ports, SearchEnd};
 use reuseport_group::GroupPasses;
-use sock_card::{Card, Kind, Owner, as_listener};
+use sock_card::{Kind, Owner, as_listener};
 use table_model::{Cause, OpEnd};
 use turn_table::{Turn, TurnPass, Turns};
 
@@ -63,38 +59,6 @@ fn extra_of(group: Option<u32>) -> u32
     match group {
         Some(number) => number + 1,
         None => 0,
-    }
-}
-
-/// Hashes a listener, whose place comes with it. `LeftOff`: another had its chain for longer than the caller tries.
-fn hash<P: Patience>(
-    patience: &P,
-    chains: &ChainTable,
-    pass: &mut ChainPass,
-    card: &Card,
-) -> Result<Place, OpEnd>
-    requires rests { IsResting chains.now pass.old }
-    requires listens { card.now.kind ≡ Kind.Listen }
-    requires room { HasRoom 1 pass.old }
-    requires share { HasShares 2 (chain_words.known pass.old.pass) }
-    ensures rests { IsResting chains.now pass.new }
-    ensures adds { AddsAs card.now (side_of chains.now pass.old) (side_of chains.now pass.new) result }
-    ensures stay { PlacesStay (chain_words.known pass.old.pass) (chain_words.known pass.new.pass) }
-    ensures share { TwoDrawn (chain_words.known pass.old.pass) (chain_words.known pass.new.pass) }
-    ensures patient { P.endless ≡ true → IfErr result NotBusy }
-{
-    let Some(answer) = chains::add(chains, patience, pass, card) else {
-        return Err(OpEnd::LeftOff(Cause::Busy));
-    };
-    match answer {
-        Ok(place) => Ok(Place {
-            bucket: place.bucket,
-            slot: place.slot,
-        }),
-        Err(slots) => Err(OpEnd::Full {
-            owned: slots.owned,
-            held: slots.held,
-        }),
     }
 }
 
@@ -123,8 +87,8 @@ fn give_back(
 {
     let mut turn = turn;
     if took {
-        group_lists::leave(tables, pass, passes, &mut turn, owner);
-        turning::give(&tables.buckets, pass, turn);
+        let unlisted = order::leave(tables, pass, passes, &mut turn, owner);
+        unlisted.give(&tables.buckets, pass, turn);
     } else {
         turning::give(&tables.buckets, pass, turn);
     }
@@ -178,20 +142,20 @@ fn start_in<P: Patience>(
     let listener = as_listener(*owner);
     let extra = extra_of(group);
     let card = owned::card_as(Kind::Listen, &listener, extra);
-    match hash(patience, &tables.chains, &mut worker.chain, &card) {
-        Ok(place) => {
+    match order::hash(patience, &tables.chains, &mut worker.chain, &card) {
+        Ok(hashed) => {
             let mut turn = turn;
-            group_lists::join(
+            order::join(
                 tables,
                 &mut worker.turns,
                 &mut worker.groups,
                 &mut turn,
                 owner,
-                place.slot,
+                &hashed,
                 group,
             );
             turning::give(&tables.buckets, &mut worker.turns, turn);
-            Ok(Listening::at_place(listener, extra, place))
+            Ok(Listening::at_place(listener, extra, hashed.place))
         }
         Err(end) => {
             give_back(

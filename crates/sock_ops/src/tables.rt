@@ -1,6 +1,6 @@
 //! The tables that threads share, and a thread's part in them.
 
-ghost use Rattle.std.specs.Prelude.{◌≡◌, ◌+◌, ◌^◌, ◌<◌, ◌≤◌, IfOk, OnOk};
+ghost use Rattle.std.specs.Prelude.{◌≡◌, ◌+◌, ◌-◌, ◌^◌, ◌<◌, ◌≤◌, IfOk, OnOk};
 ghost use Rattle.bind_buckets.specs.Turned.{IsIdle};
 ghost use Rattle.bind_buckets.specs.declared.request.Sharing.TheVariants as sharings;
 ghost use Rattle.reuseport_group.specs.Passes as lists;

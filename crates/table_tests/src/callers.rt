@@ -6,6 +6,7 @@ use flat_calls::{Item, Outcome, commands};
 use flat_list::header::NONE_RESERVED;
 use flat_list::{Command, End, Header, Options, Range, Shape};
 use patience::Tries;
+use section_machine::Gone;
 use shared_calls::{Asking, Caller, Left, Limited, Limits, Looker, SharedTables, Sighting};
 use sock_card::{Kind, Packet};
 use std::alloc::{AllocError, Global};
@@ -342,6 +343,21 @@ fn what_is_left_goes_down_by_what_was_taken(rt: HostRuntime) -> Result<(), Fail>
     // The listener and the child came, the child went and its TIME_WAIT came, which two numbers are kept for.
     assert_eq!(rt; whole.stamps - stamps, 10);
     assert_eq!(rt; entries < whole.entries, true);
+    Ok(())
+}
+
+#[test]
+fn so_many_time_waits_at_most_are_reaped_in_a_call(rt: HostRuntime) -> Result<(), Fail> {
+    let (mut limited, listener) = listen_limited(rt.alloc(), 0, 0)?;
+    for port in 5..7u16 {
+        assert_eq!(rt; leaves_one(&mut limited, listener, port), true);
+    }
+    assert_eq!(rt; limited.reap_most(0), Ok(Gone::All(0)));
+    limited.call(&Command::At { moment: 60 });
+    assert_eq!(rt; limited.reap_most(0), Ok(Gone::More(0)));
+    assert_eq!(rt; limited.reap_most(1), Ok(Gone::More(1)));
+    assert_eq!(rt; limited.caller.waiting(), 1);
+    assert_eq!(rt; limited.reap_most(1), Ok(Gone::All(1)));
     Ok(())
 }
 

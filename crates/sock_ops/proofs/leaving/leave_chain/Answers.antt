@@ -69,12 +69,12 @@ returns-in_default-clause-listed g c =
     none_listed (lists.groups c.args.tables.now.groups) v w c.args.worker.now.groups c.begin_with.new.worker.groups c.begin_with.ensures.groups
     (nothing_made turn.place v w (made c.begin_with.new.worker.turns turn) c.in_ok-turn.ensures.none (c.give.ensures.gave v c.in_ok-turn.ensures.within))
 
-pub remove-requires-clause-room : goal.remove-requires-clause-room
-remove-requires-clause-room g c = c.lock_chain_of.ensures.room 1 c.in_ok-turn.ensures.room
+pub remove-unhashed-requires-clause-room : goal.remove-unhashed-requires-clause-room
+remove-unhashed-requires-clause-room g c = c.lock_chain_of.ensures.room 1 c.in_ok-turn.ensures.room
 
 pub returns-clause-drawn : goal.returns-clause-drawn
 returns-clause-drawn g c = λ more may.
-    c.remove.ensures.share (side_of c.args.tables.now.chains c.begin_with.new.worker.chain) c.in-Some.ensures.locked more
+    c.remove-unhashed.ensures.share (side_of c.args.tables.now.chains c.begin_with.new.worker.chain) c.in-Some.ensures.locked more
     (subst (λ (s : Side). HasShares (more + 2) s.view) (sym c.begin_with.ensures.side) may)
 
 pub returns-clause-carried : goal.returns-clause-carried
@@ -84,13 +84,13 @@ returns-clause-carried g c =
     let n = buckets_of t in
     let v = turned c.args.worker.now in
     let w = known c.give-2.new.pass in
-    let d = side_of t.chains c.remove.new.pass in
+    let d = side_of t.chains c.remove-unhashed.new.pass in
     let removes : Removes c.args.place (side_of t.chains c.args.worker.now.chain) d =
-    subst (λ (k : Side). Removes c.args.place k d) c.begin_with.ensures.side (c.remove.ensures.removes (side_of t.chains c.begin_with.new.worker.chain) c.in-Some.ensures.locked) in
-    let asks = c.leave.ensures.asks in
+    subst (λ (k : Side). Removes c.args.place k d) c.begin_with.ensures.side (c.remove-unhashed.ensures.removes (side_of t.chains c.begin_with.new.worker.chain) c.in-Some.ensures.locked) in
+    let asks = c.leave-unlisted.ensures.asks in
     let once = asks.made_is ∙ ap (λ (ms : List Note). entries_of ms ++ leave_entry a ∷ []) c.in_ok-turn.ensures.none in
     let place = asks.place ∙ c.in_ok-turn.ensures.place in
-    let all = asked_all c.leave.new.turn.place (owner_key a % n) (leave_entry a ∷ []) v w (made c.leave.new.pass c.leave.new.turn) place once (c.give-2.ensures.gave v (asks.within v c.in_ok-turn.ensures.within)) in
+    let all = asked_all c.leave-unlisted.new.turn.place (owner_key a % n) (leave_entry a ∷ []) v w (made c.leave-unlisted.new.pass c.leave-unlisted.new.turn) place once (c.give-2.ensures.gave v (asks.within v c.in_ok-turn.ensures.within)) in
     hashed_leaves n a v w c.args.place removes.unhash (side_of t.chains c.args.worker.now.chain) d removes.is removes.does all
 
 pub returns-clause-lists : goal.returns-clause-lists
@@ -100,13 +100,13 @@ returns-clause-lists g c =
     let v = turned c.args.worker.now in
     let w = known c.give-2.new.pass in
     let p = c.begin_with.new.worker in
-    let q = c.leave.new.passes in
-    let e = c.leave.ensures in
+    let q = c.leave-unlisted.new.passes in
+    let e = c.leave-unlisted.ensures in
     let o = c.in_ok-turn.ensures in
     let within = e.asks.within v o.within in
     subst (λ g. LeavesAs (owner_key a % buckets_of t) a w g q) c.begin_with.ensures.groups
     (subst (λ i. LeavesAs i a w p.groups q) o.place
-    (leaves_as t.buckets p.turns c.in_ok-turn.turn c.leave.new.pass c.leave.new.turn a v w e.lists.0 p.groups q e.sound.0 e.sound.1 o.out e.asks
+    (leaves_as t.buckets p.turns c.in_ok-turn.turn c.leave-unlisted.new.pass c.leave-unlisted.new.turn a v w e.lists.0 p.groups q e.sound.0 e.sound.1 o.out e.asks
     within (c.give-2.ensures.gave v within) e.lists.1))
 
 pub returns-clause-listed : goal.returns-clause-listed
@@ -116,20 +116,20 @@ returns-clause-listed g c =
     let v = turned c.args.worker.now in
     let w = known c.give-2.new.pass in
     let p = c.begin_with.new.worker in
-    let q = c.leave.new.passes in
-    let e = c.leave.ensures in
+    let q = c.leave-unlisted.new.passes in
+    let e = c.leave-unlisted.ensures in
     let o = c.in_ok-turn.ensures in
     let within = e.asks.within v o.within in
     let leaves = subst (λ g. LeavesAs (owner_key a % buckets_of t) a w g q) c.begin_with.ensures.groups
     (subst (λ i. LeavesAs i a w p.groups q) o.place
-    (leaves_as t.buckets p.turns c.in_ok-turn.turn c.leave.new.pass c.leave.new.turn a v w e.lists.0 p.groups q e.sound.0 e.sound.1 o.out e.asks
+    (leaves_as t.buckets p.turns c.in_ok-turn.turn c.leave-unlisted.new.pass c.leave-unlisted.new.turn a v w e.lists.0 p.groups q e.sound.0 e.sound.1 o.out e.asks
     within (c.give-2.ensures.gave v within) e.lists.1)) in
     let once = e.asks.made_is ∙ ap (λ (ms : List Note). entries_of ms ++ leave_entry a ∷ []) o.none in
-    let all = asked_all c.leave.new.turn.place (owner_key a % buckets_of t) (leave_entry a ∷ []) v w (made c.leave.new.pass c.leave.new.turn) (e.asks.place ∙ o.place) once (c.give-2.ensures.gave v within) in
+    let all = asked_all c.leave-unlisted.new.turn.place (owner_key a % buckets_of t) (leave_entry a ∷ []) v w (made c.leave-unlisted.new.pass c.leave-unlisted.new.turn) (e.asks.place ∙ o.place) once (c.give-2.ensures.gave v within) in
     left_keeps (lists.groups t.groups) (owner_key a % buckets_of t) a v w c.args.worker.now.groups q all leaves
 
 pub returns-clause-stay : goal.returns-clause-stay
 returns-clause-stay g c =
     let t = c.args.tables.now in
-    subst (λ (s : Side). OthersStay c.args.place.slot s.view (chain_words.known c.remove.new.pass.pass)) c.begin_with.ensures.side
-    (c.remove.ensures.stay (side_of t.chains c.begin_with.new.worker.chain) c.in-Some.ensures.locked)
+    subst (λ (s : Side). OthersStay c.args.place.slot s.view (chain_words.known c.remove-unhashed.new.pass.pass)) c.begin_with.ensures.side
+    (c.remove-unhashed.ensures.stay (side_of t.chains c.begin_with.new.worker.chain) c.in-Some.ensures.locked)

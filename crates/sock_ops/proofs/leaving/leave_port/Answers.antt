@@ -24,10 +24,10 @@ pub returns-clause-gave : goal.returns-clause-gave
 returns-clause-gave g c =
     let a = c.args.owner.now in
     let v = known c.args.pass.now in
-    let asks = c.leave.ensures.asks in
+    let asks = c.leave-unlisted.ensures.asks in
     let o = c.in-Some.ensures in
     let once = asks.made_is ∙ ap (λ (ms : List Note). entries_of ms ++ leave_entry a ∷ []) o.none in
-    asked_all c.leave.new.turn.place (owner_key a % words.places c.args.tables.now.buckets) (leave_entry a ∷ []) v (known c.give.new.pass) (made c.leave.new.pass c.leave.new.turn) (asks.place ∙ o.place) once (c.give.ensures.gave v (asks.within v o.within))
+    asked_all c.leave-unlisted.new.turn.place (owner_key a % words.places c.args.tables.now.buckets) (leave_entry a ∷ []) v (known c.give.new.pass) (made c.leave-unlisted.new.pass c.leave-unlisted.new.turn) (asks.place ∙ o.place) once (c.give.ensures.gave v (asks.within v o.within))
 
 pub returns-clause-lists : goal.returns-clause-lists
 returns-clause-lists g c =
@@ -35,12 +35,12 @@ returns-clause-lists g c =
     let v = known c.args.pass.now in
     let w = known c.give.new.pass in
     let p = c.args.passes.now in
-    let q = c.leave.new.passes in
-    let e = c.leave.ensures in
+    let q = c.leave-unlisted.new.passes in
+    let e = c.leave-unlisted.ensures in
     let o = c.in-Some.ensures in
     let within = e.asks.within v o.within in
     subst (λ i. LeavesAs i a w p q) o.place
-    (leaves_as c.args.tables.now.buckets c.take.new.pass c.in-Some.turn c.leave.new.pass c.leave.new.turn a v w e.lists.0 p q e.sound.0 e.sound.1 o.out e.asks
+    (leaves_as c.args.tables.now.buckets c.take.new.pass c.in-Some.turn c.leave-unlisted.new.pass c.leave-unlisted.new.turn a v w e.lists.0 p q e.sound.0 e.sound.1 o.out e.asks
     within (c.give.ensures.gave v within) e.lists.1)
 
 pub returns-clause-listed : goal.returns-clause-listed
@@ -49,14 +49,14 @@ returns-clause-listed g c =
     let v = known c.args.pass.now in
     let w = known c.give.new.pass in
     let p = c.args.passes.now in
-    let q = c.leave.new.passes in
-    let e = c.leave.ensures in
+    let q = c.leave-unlisted.new.passes in
+    let e = c.leave-unlisted.ensures in
     let o = c.in-Some.ensures in
     let place = owner_key a % words.places c.args.tables.now.buckets in
     let once = e.asks.made_is ∙ ap (λ (ms : List Note). entries_of ms ++ leave_entry a ∷ []) o.none in
     let within = e.asks.within v o.within in
     left_keeps (lists.groups c.args.tables.now.groups) place a v w p q
-    (asked_all c.leave.new.turn.place place (leave_entry a ∷ []) v w (made c.leave.new.pass c.leave.new.turn) (e.asks.place ∙ o.place) once (c.give.ensures.gave v within))
+    (asked_all c.leave-unlisted.new.turn.place place (leave_entry a ∷ []) v w (made c.leave-unlisted.new.pass c.leave-unlisted.new.turn) (e.asks.place ∙ o.place) once (c.give.ensures.gave v within))
     (subst (λ i. LeavesAs i a w p q) o.place
-    (leaves_as c.args.tables.now.buckets c.take.new.pass c.in-Some.turn c.leave.new.pass c.leave.new.turn a v w e.lists.0 p q e.sound.0 e.sound.1 o.out e.asks
+    (leaves_as c.args.tables.now.buckets c.take.new.pass c.in-Some.turn c.leave-unlisted.new.pass c.leave-unlisted.new.turn a v w e.lists.0 p q e.sound.0 e.sound.1 o.out e.asks
     within (c.give.ensures.gave v within) e.lists.1))

@@ -69,9 +69,9 @@ returns-in-Err-clause-went g c = λ v within.
     let w = known c.give-in-Err.new.pass in
     let k = side_of t.chains c.args.worker.now.chain in
     let d = side_of t.chains c.replace.new.pass in
-    let asks = c.leave.ensures.asks in
+    let asks = c.leave-unlisted.ensures.asks in
     let once = asks.made_is ∙ ap (λ (ms : List Note). entries_of ms ++ leave_entry c.full.inside.owner ∷ []) c.requires.made ∙ ap (λ (o : Owner). leave_entry o ∷ []) own in
-    let all = asked_all c.leave.new.turn.place (owner_key m.owner % n) (leave_entry m.owner ∷ []) v w (made c.leave.new.pass c.leave.new.turn) (asks.place ∙ c.requires.place) once (c.give-in-Err.ensures.gave v (asks.within v within)) in
+    let all = asked_all c.leave-unlisted.new.turn.place (owner_key m.owner % n) (leave_entry m.owner ∷ []) v w (made c.leave-unlisted.new.pass c.leave-unlisted.new.turn) (asks.place ∙ c.requires.place) once (c.give-in-Err.ensures.gave v (asks.within v within)) in
     let slots = c.in-Err.slots in
     let did = subst (λ r. WaitsAs c.full_place.result c.card_as-card.result k d r) c.in-Err.is c.in-Some.ensures.waits in
     let goes = subst (λ (p : Stood). WaitsAs p c.card_as-card.result k d (Err slots)) c.full_place.ensures did in
@@ -97,12 +97,12 @@ returns-in-Err-clause-lists g c = λ v within.
     let n = buckets_of t in
     let w = known c.give-in-Err.new.pass in
     let p = c.args.worker.now.groups in
-    let q = c.leave.new.passes in
-    let e = c.leave.ensures in
+    let q = c.leave-unlisted.new.passes in
+    let e = c.leave-unlisted.ensures in
     let inside = e.asks.within v within in
     let leaves = subst (λ (o : Owner). LeavesAs (owner_key m.owner % n) o w p q) own
     (subst (λ i. LeavesAs i c.full.inside.owner w p q) c.requires.place
-    (leaves_as t.buckets c.args.worker.now.turns c.args.turn c.leave.new.pass c.leave.new.turn c.full.inside.owner v w e.lists.0 p q e.sound.0 e.sound.1 c.requires.out e.asks
+    (leaves_as t.buckets c.args.worker.now.turns c.args.turn c.leave-unlisted.new.pass c.leave-unlisted.new.turn c.full.inside.owner v w e.lists.0 p q e.sound.0 e.sound.1 c.requires.out e.asks
     inside (c.give-in-Err.ensures.gave v inside) e.lists.1)) in
     inr leaves
 
@@ -114,13 +114,13 @@ returns-in-Err-clause-listed g c = λ v within.
     let n = buckets_of t in
     let w = known c.give-in-Err.new.pass in
     let p = c.args.worker.now.groups in
-    let q = c.leave.new.passes in
-    let e = c.leave.ensures in
+    let q = c.leave-unlisted.new.passes in
+    let e = c.leave-unlisted.ensures in
     let inside = e.asks.within v within in
     let leaves = subst (λ (o : Owner). LeavesAs (owner_key m.owner % n) o w p q) own
     (subst (λ i. LeavesAs i c.full.inside.owner w p q) c.requires.place
-    (leaves_as t.buckets c.args.worker.now.turns c.args.turn c.leave.new.pass c.leave.new.turn c.full.inside.owner v w e.lists.0 p q e.sound.0 e.sound.1 c.requires.out e.asks
+    (leaves_as t.buckets c.args.worker.now.turns c.args.turn c.leave-unlisted.new.pass c.leave-unlisted.new.turn c.full.inside.owner v w e.lists.0 p q e.sound.0 e.sound.1 c.requires.out e.asks
     inside (c.give-in-Err.ensures.gave v inside) e.lists.1)) in
     let once = e.asks.made_is ∙ ap (λ (ms : List Note). entries_of ms ++ leave_entry c.full.inside.owner ∷ []) c.requires.made ∙ ap (λ (o : Owner). leave_entry o ∷ []) own in
-    let all = asked_all c.leave.new.turn.place (owner_key m.owner % n) (leave_entry m.owner ∷ []) v w (made c.leave.new.pass c.leave.new.turn) (e.asks.place ∙ c.requires.place) once (c.give-in-Err.ensures.gave v inside) in
+    let all = asked_all c.leave-unlisted.new.turn.place (owner_key m.owner % n) (leave_entry m.owner ∷ []) v w (made c.leave-unlisted.new.pass c.leave-unlisted.new.turn) (e.asks.place ∙ c.requires.place) once (c.give-in-Err.ensures.gave v inside) in
     left_keeps (lists.groups t.groups) (owner_key m.owner % n) m.owner v w p q all leaves

@@ -4,6 +4,7 @@ use Rattle.turn_table.specs.Passes.{known}
 use Rattle.bind_buckets.specs.declared.request.Entry.{Entry}
 use Rattle.bind_buckets.specs.declared.request.Answer.TheVariants as answers
 use Rattle.bind_buckets.specs.Turned.{made}
+use Rattle.sock_ops.specs.declared.order.Hashed.{Hashed}
 use Rattle.sock_ops.specs.Sides.{side_of}
 use Rattle.table_model.specs.Own.{Mine}
 use Rattle.sock_ops.specs.Goes.{gone_if}
@@ -26,11 +27,11 @@ returns-in-Ok-clause-carried g c = λ v es within only.
     let asks = c.join.ensures.asks in
     let group = c.args.group in
     let asked = asked_listen a (answers.Group group) in
-    let said = said_listen a c.in-Ok.place.slot in
+    let said = said_listen a c.in-Ok.hashed.place.slot in
     holds_after (owner_key a % n) es (asked ∷ said ∷ []) v w _
     (asked_all c.join.new.turn.place (owner_key a % n) (es ++ asked ∷ said ∷ []) v w (made c.join.new.pass c.join.new.turn) (asks.place ∙ c.requires.place)
     (asks.made_is ∙ ap (λ (xs : List Entry). xs ++ said ∷ []) only ∙ append_assoc es (asked ∷ []) (said ∷ [])) (c.give.ensures.gave v (asks.within v within)))
-    (λ u all. listen_done n a c.args.took u w (side_of t.chains c.args.worker.now.chain) (side_of t.chains c.hash.new.pass) group c.as_listener-listener.result c.extra_of-extra.result c.card_as-card.result c.in-Ok.place c.at_place.result
+    (λ u all. listen_done n a c.args.took u w (side_of t.chains c.args.worker.now.chain) (side_of t.chains c.hash.new.pass) group c.as_listener-listener.result c.extra_of-extra.result c.card_as-card.result c.in-Ok.hashed.place c.at_place.result
     c.as_listener-listener.ensures c.extra_of-extra.ensures c.card_as-card.ensures c.in-Ok.ensures.adds c.at_place.ensures all)
 
 pub returns-in-Err-clause-carried : goal.returns-in-Err-clause-carried
@@ -43,7 +44,7 @@ returns-in-Err-clause-carried g c = λ v es within only.
     let asked = asked_listen a (answers.Group c.args.group) in
     holds_after (owner_key a % n) es (asked ∷ gone_if took a) v w _
     (given_back c.args.turn.place (owner_key a % n) es asked (gone_if took a) v w _ c.requires.place only (c.give_back.ensures.gave v within))
-    (λ u all. listen_full n a took u w (side_of t.chains c.args.worker.now.chain) (side_of t.chains c.hash.new.pass) c.args.group c.as_listener-listener.result c.extra_of-extra.result c.card_as-card.result c.in-Err.end
+    (λ u all. listen_full n a took u w (side_of t.chains c.args.worker.now.chain) (side_of t.chains c.hash.new.pass) (λ (h : Hashed). h.place) c.args.group c.as_listener-listener.result c.extra_of-extra.result c.card_as-card.result c.in-Err.end
     c.as_listener-listener.ensures c.extra_of-extra.ensures c.card_as-card.ensures c.in-Err.ensures.adds all)
 
 pub returns-in-Ok-clause-tells : goal.returns-in-Ok-clause-tells
@@ -54,11 +55,11 @@ returns-in-Ok-clause-tells g c = λ v es within only.
     let w = known c.give.new.pass in
     let asks = c.join.ensures.asks in
     let asked = asked_listen a (answers.Group c.args.group) in
-    let said = said_listen a c.in-Ok.place.slot in
+    let said = said_listen a c.in-Ok.hashed.place.slot in
     holds_after place es (asked ∷ said ∷ []) v w _
     (asked_all c.join.new.turn.place place (es ++ asked ∷ said ∷ []) v w (made c.join.new.pass c.join.new.turn) (asks.place ∙ c.requires.place)
     (asks.made_is ∙ ap (λ (xs : List Entry). xs ++ said ∷ []) only ∙ append_assoc es (asked ∷ []) (said ∷ [])) (c.give.ensures.gave v (asks.within v within)))
-    (λ u all. told_so place a u w c.at_place.result c.args.group c.in-Ok.place.slot (ap (λ (m : Mine). m.owner) c.at_place.ensures ∙ c.as_listener-listener.ensures) all)
+    (λ u all. told_so place a u w c.at_place.result c.args.group c.in-Ok.hashed.place.slot (ap (λ (m : Mine). m.owner) c.at_place.ensures ∙ c.as_listener-listener.ensures) all)
 
 pub returns-in-Err-clause-tells : goal.returns-in-Err-clause-tells
 returns-in-Err-clause-tells g c = λ v es within only.
@@ -80,7 +81,7 @@ returns-in-Ok-clause-lists g c = λ v es within only.
     let q = c.join.new.passes in
     let e = c.join.ensures in
     let group = c.args.group in
-    let place = c.in-Ok.place in
+    let place = c.in-Ok.hashed.place in
     let inside = e.asks.within v within in
     let lists = listens_in t.buckets c.args.worker.now.turns c.args.turn c.join.new.pass c.join.new.turn a place.slot v w group es p q e.sound.0 e.sound.1 c.requires.out e.asks only inside (c.give.ensures.gave v inside) e.lists in
     subst (λ i. ListensAs i c.at_place.result w p q) c.requires.place
