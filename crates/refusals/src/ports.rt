@@ -39,9 +39,9 @@ fn no_port<'a>(rest: &'a [&'a [u8]]) -> Option<usize>
     ensures none { IfNone result (ArePorts (texts rest.now)) }
 {
     for i in 0..rest.len() {
-        if port_of(rest[i]).is_none() {
+        let Some(_) = port_of(rest[i]) else {
             return Some(i + 2);
-        }
+        };
     }
     None
 }

@@ -1,5 +1,6 @@
 //! Why words are no line that can stand where it does.
 ghost use Rattle.std.specs.Prelude.{◌≡◌, ◌∷◌, [], ℕ, List, ◌↔◌, ◌||◌, is_some, IsTrue, IfOk, IfSome, IfNone};
+ghost use Rattle.std.specs.List.{list_any};
 ghost use Rattle.sock_script.specs.Seen.{texts};
 ghost use Rattle.sock_script.specs.declared.parse.Mode.{Mode as AnyMode};
 ghost use Rattle.line_forms.specs.Kinds.{parts_of, verb_text};
@@ -67,11 +68,18 @@ fn is_strange(b: u8) -> bool
     b < 33 || 126 < b
 }
 
+/// Whether a byte of the word is such.
+fn has_strange(word: &[u8]) -> bool
+    ensures { result ≡ list_any spec.is_strange word.now }
+{
+    word.iter().any(|b| is_strange(*b))
+}
+
 /// Why no line begins with that word.
 fn no_verb(word: &[u8]) -> Reason
     ensures { result ≡ spec.no_verb word.now }
 {
-    if word.iter().any(|b| is_strange(*b)) {
+    if has_strange(word) {
         return Reason::Strange;
     }
     Reason::NoVerb
@@ -89,24 +97,33 @@ fn misfit_reason<'a>(verb: Verb, rest: &'a [&'a [u8]], misfit: Misfit) -> Reason
     }
 }
 
-/// Why words that begin with that verb, and have no form, have none.
-fn form_reason<'a>(verb: Verb, rest: &'a [&'a [u8]]) -> Reason
-    requires { ¬ (IsForm (verb_text verb ∷ texts rest.now)) }
+/// Why words that begin with that verb, whose form has parts, and have no form, have none.
+fn parts_reason<'a>(verb: Verb, rest: &'a [&'a [u8]]) -> Reason
+    requires parts { ¬ (verb ≡ Verb.Reserved) }
+    requires formless { ¬ (IsForm (verb_text verb ∷ texts rest.now)) }
     ensures { (mode : AnyMode) (lines : List (List ℕ)) → HasReason mode lines (verb_text verb ∷ texts rest.now) result }
 {
-    // What each port behind it must be depends on the one before, so it has no parts.
-    if matches!(verb, Verb::Reserved) {
-        return Reason::Ports {
-            verb,
-            fault: reserved_fault(rest),
-        };
-    }
     match check(verb.parts(), rest) {
         Err(misfit) => misfit_reason(verb, rest, misfit),
         Ok(()) => Reason::Ports {
             verb: Verb::Range,
             fault: range_fault(rest),
         },
+    }
+}
+
+/// Why words that begin with that verb, and have no form, have none.
+fn form_reason<'a>(verb: Verb, rest: &'a [&'a [u8]]) -> Reason
+    requires { ¬ (IsForm (verb_text verb ∷ texts rest.now)) }
+    ensures { (mode : AnyMode) (lines : List (List ℕ)) → HasReason mode lines (verb_text verb ∷ texts rest.now) result }
+{
+    match verb {
+        // What each port behind it must be depends on the one before, so its form has no parts.
+        Verb::Reserved => Reason::Ports {
+            verb,
+            fault: reserved_fault(rest),
+        },
+        _ => parts_reason(verb, rest),
     }
 }
 
