@@ -11,8 +11,8 @@ ports_more : (words : List (List ℕ)) (i : ℕ) → ((k : ℕ) → k < i → Is
 ports_more words i before word at is k lt =
     ⊎_elim (λ less. before k less)
     (λ least.
-        let same : i ≡ k = omega (arith, least, lt) in
-        subst (λ (j : ℕ). IsOf a_port (get_or words j [])) same (subst (λ (w : List ℕ). IsOf a_port w) (sym at) is))
+    let same : i ≡ k = omega (arith, least, lt) in
+    subst (λ (j : ℕ). IsOf a_port (get_or words j [])) same (subst (λ (w : List ℕ). IsOf a_port w) (sym at) is))
     (cases_lt k i)
 
 pub loop-i-preserved : goal.loop-i-preserved

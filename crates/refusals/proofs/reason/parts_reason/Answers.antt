@@ -27,8 +27,7 @@ returns-in-Err c = c.misfit_reason.ensures
 pub returns-in-Ok : goal.returns-in-Ok
 returns-in-Ok c = λ mode lines.
     let words : List (List ℕ) = texts c.args.rest.now in
-    let fit : Fit (wants (parts_of c.args.verb) words) words = subst (λ (ps : List Part). Fit (wants ps words) words) c.parts.ensures c.in-Ok.ensures.ok in
-    (
+    let fit : Fit (wants (parts_of c.args.verb) words) words = subst (λ (ps : List Part). Fit (wants ps words) words) c.parts.ensures c.in-Ok.ensures.ok in (
       words,
       ap (λ (v : Verb). verb_text v ∷ words) (only_range c.args.verb words fit c.requires.parts c.requires.formless),
       c.range_fault.ensures,
