@@ -41,7 +41,7 @@ pub one_more : (t : Tables) (old now new : Worker) (all left rest : List Mine) (
     → Reaping t old new all rest moment next → Bounded t old new all rest moment next most (more - 1)
 one_more t old now new all left rest moment count next most more w b some first behind reaping =
     let bound = b.bound in
-    record { reaping = reaping; bound = omega (arith, one_less moment left rest w first behind, some) }
+    record { reaping = reaping; bound = omega (arith, bound, one_less moment left rest w first behind, some) }
 
 -- none that is left is over
 pub first_all : (t : Tables) (old now : Worker) (all left : List Mine) (moment count most more : ℕ) → Bounded t old now all left moment count most more → first_over moment left ≡ None
@@ -60,7 +60,8 @@ first_more t old now all left moment count most more w b none first =
         reaped = count;
         went = r.went;
       },
-      (refl, omega (arith, none)),
+      refl,
+      omega (arith, bound, none),
     )
 
 -- what a section comes to by it
@@ -92,8 +93,8 @@ module _ (t : Tables) (k : Kept) (header : Header) (l : Labelled) (moment : ℕ)
         does = c.does;
       }
   most_of (reapings.More n) first =
-      let left = reap_left_behind t header l moment o waits after w u k view section.tables n first.0 first.1.0 in
-      (left.0, (left.1, ap length (sym waits_are) ∙ first.1.1))
+      let left = reap_left_behind t header l moment o waits after w u k view section.tables n first.0 first.1 in
+      (left.0, left.1, ap length (sym waits_are) ∙ first.2)
 
   section_of : (r : Gone) → First r → IsSection t new u
   section_of (reapings.All n) first = (reaped_so t k header l moment o waits after w u view section ready caller n first.0 first.1).section
