@@ -8,7 +8,7 @@ use Rattle.sock_script.specs.Forms.{HasForm}
 use Rattle.sock_script.specs.Steps.{IsCommand}
 use Rattle.line_forms.specs.declared.verb.Verb.{Verb}
 use Rattle.line_forms.specs.Kinds.{verb_text}
-use Rattle.refusals.specs.Reasons.{IsForm}
+use Rattle.refusals.specs.Ports.{IsForm}
 
 module _ (words : List (List ℕ)) where
   -- neither a command nor another line

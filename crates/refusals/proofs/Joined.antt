@@ -14,6 +14,12 @@ behind old mid new piece rest first more = more ∙ ap (λ (x : List ℕ). x ++ 
 pub named : (old new piece other : List ℕ) → new ≡ old ++ piece → piece ≡ other → new ≡ old ++ other
 named old new piece other grown is = grown ∙ ap (λ (x : List ℕ). old ++ x) is
 
+-- four pieces, one after the other
+pub four : (old one two three new a b c d : List ℕ) → one ≡ old ++ a → two ≡ one ++ b → three ≡ two ++ c → new ≡ three ++ d
+    → new ≡ old ++ (a ++ b ++ c ++ d)
+four old one two three new a b c d p q r s =
+    behind old three new (a ++ b ++ c) d (behind old two three (a ++ b) c (behind old one two a b p q) r) s
+
 -- five pieces, one after the other
 pub five : (old one two three four new a b c d e : List ℕ) → one ≡ old ++ a → two ≡ one ++ b → three ≡ two ++ c → four ≡ three ++ d
     → new ≡ four ++ e → new ≡ old ++ (a ++ b ++ c ++ d ++ e)

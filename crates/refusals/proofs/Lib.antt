@@ -3,5 +3,7 @@ pub mod Copied
 pub mod Found
 pub mod Joined
 pub mod Options
+pub mod Ranges
+pub mod Steps
 pub mod Whole
 pub mod Words

@@ -1,5 +1,5 @@
 -- Words that fit what their verb wants have a form, unless the verb wants ports.
-use Rattle.std.proofs.Common.{◌≡◌, ℕ, ◌≤◌, ◌⊎◌, inl, inr, List, [], ◌∷◌, ◌++◌, codes, decimal, refl, ap, sym, ◌∙◌, append-nil, ◌==◌, arith}
+use Rattle.std.proofs.Common.{◌≡◌, ℕ, ◌≤◌, ◌⊎◌, ⊎_elim, inl, inr, List, [], ◌∷◌, ◌++◌, codes, decimal, refl, ap, sym, ◌∙◌, append-nil, ◌==◌, arith}
 use Rattle.inet_io.specs.Texts.{end_text}
 use Rattle.flat_list.specs.declared.command.End.{End}
 use Rattle.flat_list.specs.declared.command.Query.{Query}
@@ -16,7 +16,7 @@ use Rattle.line_forms.specs.Wants.{Fit, wants}
 use Rattle.sock_script.specs.declared.line.Line.TheVariants as lines
 use Rattle.sock_script.specs.Forms.{EndFits, ends_words, option_words, namespace_words, user_words, device_words, source_words, flag_words}
 use Rattle.sock_script.proofs.Words.{switch_of, options_of, flag-last, from_noport, from_reuseport, from_reuseaddr, from_device, from_user}
-use Rattle.refusals.specs.Reasons.{HasPorts, IsForm}
+use Rattle.refusals.specs.Ports.{IsForm}
 use Rattle.refusals.proofs.Options.{net_of, uid_of, dev_of, from_of, flag_of}
 
 -- what stands behind a verb fits
@@ -211,6 +211,13 @@ ack_of (a ∷ []) fit = absurd fit.1
 ack_of (request ∷ label ∷ []) fit = (lines.Command (commands.Ack request label), (refl, (fit.0, fit.1.0)))
 ack_of (a ∷ b ∷ c ∷ ws) fit = absurd fit.1.1
 
+-- The words behind the verb are ports of which more is asked than a range: two behind `range`, and any behind
+-- `reserved`.
+abbrev pub HasPorts : Verb → List (List ℕ) → Type 0
+HasPorts verbs.Range rest = Fit (wants (parts_of verbs.Range) rest) rest
+HasPorts verbs.Reserved rest = Unit {0}
+HasPorts _ rest = ⊥
+
 -- words that fit have a form, or the verb wants ports
 pub fits-form : (verb : Verb) (rest : List (List ℕ)) → Fits verb rest → HasPorts verb rest ⊎ IsForm (verb_text verb ∷ rest)
 fits-form verbs.Table rest fit = inr (table_of rest fit)
@@ -251,3 +258,34 @@ fits-form verbs.Packets rest fit =
     let n = number_alone 0 1000000 rest fit in
     inr (lines.Command (commands.Packets n.0), (ap (λ (x : List (List ℕ)). codes "packets" ∷ x) n.1, n.3))
 fits-form verbs.Dump rest fit = inr (lines.Command commands.Dump, (ap (λ (x : List (List ℕ)). codes "dump" ∷ x) (no_more rest fit), tt))
+
+-- a verb that wants ports, and isn't `reserved`
+range_of : (verb : Verb) (rest : List (List ℕ)) → HasPorts verb rest → (verb ≡ verbs.Reserved → ⊥) → verb ≡ verbs.Range
+range_of verbs.Range rest ports not = refl
+range_of verbs.Reserved rest ports not = absurd (not refl)
+range_of verbs.Table rest ports not = absurd ports
+range_of verbs.Seed rest ports not = absurd ports
+range_of verbs.Offset rest ports not = absurd ports
+range_of verbs.TimeWaitReuse rest ports not = absurd ports
+range_of verbs.Script rest ports not = absurd ports
+range_of verbs.Capture rest ports not = absurd ports
+range_of verbs.Socket rest ports not = absurd ports
+range_of verbs.Bind rest ports not = absurd ports
+range_of verbs.Listen rest ports not = absurd ports
+range_of verbs.Connect rest ports not = absurd ports
+range_of verbs.Accept rest ports not = absurd ports
+range_of verbs.Syn rest ports not = absurd ports
+range_of verbs.Ack rest ports not = absurd ports
+range_of verbs.Close rest ports not = absurd ports
+range_of verbs.Drop rest ports not = absurd ports
+range_of verbs.At rest ports not = absurd ports
+range_of verbs.Reap rest ports not = absurd ports
+range_of verbs.Look rest ports not = absurd ports
+range_of verbs.Packets rest ports not = absurd ports
+range_of verbs.Dump rest ports not = absurd ports
+
+-- words without a form that fit are behind `range`, unless they are behind `reserved`
+pub only_range : (verb : Verb) (rest : List (List ℕ)) → Fits verb rest → (verb ≡ verbs.Reserved → ⊥) → (IsForm (verb_text verb ∷ rest) → ⊥)
+    → verb ≡ verbs.Range
+only_range verb rest fit not formless =
+    range_of verb rest (⊎_elim (λ ports. ports) (λ form. absurd (formless form)) (fits-form verb rest fit)) not

@@ -1,5 +1,5 @@
 //! The lines of a text, and the words of a line.
-ghost use Rattle.std.specs.Prelude.{◌≡◌, ◌++◌, ◌∷◌, [], filter, IfOk, OnOk};
+ghost use Rattle.std.specs.Prelude.{◌≡◌, ◌≤◌, ◌++◌, ◌∷◌, [], filter, length, take, IfOk, OnOk};
 ghost use Rattle.std.specs.Str.Lines.{strip_carriage_return};
 ghost use Rattle.std.specs.List.{slice_split};
 ghost use Rattle.sock_script.specs.Seen.{texts};
@@ -84,4 +84,12 @@ pub fn words_of(alloc: Global, line: &[u8]) -> Result<Vec<&[u8]>, AllocError>
     let mut words = Vec::new(alloc);
     push_words(&mut words, &pieces)?;
     Ok(words)
+}
+
+/// The first lines, so many.
+pub fn first_lines<'a>(lines: &'a [&'a [u8]], count: usize) -> &'a [&'a [u8]]
+    requires { count ≤ length lines.now }
+    ensures { texts result.now ≡ take count (texts lines.now) }
+{
+    &lines[..count]
 }

@@ -3,20 +3,22 @@ ghost use Rattle.std.specs.Prelude.{◌≡◌, ◌++◌, OnOk, decimal};
 ghost use Rattle.refusals.specs.Texts as spec;
 
 use crate::answer::Refusal;
+use crate::place::Misplace;
+use crate::ports::PortsFault;
 use crate::reason::Reason;
 use itoa::write_digits;
 use line_forms::{Kind, Misfit, Verb};
 use std::alloc::AllocError;
 
 /// Appends a text.
-fn put(out: &mut Vec<u8>, text: &[u8]) -> Result<(), AllocError>
+pub fn put(out: &mut Vec<u8>, text: &[u8]) -> Result<(), AllocError>
     ensures { OnOk result (out.new.items ≡ out.old.items ++ text.now) }
 {
     out.extend_from_slice(text)
 }
 
 /// Appends a number in decimal digits.
-fn put_number(out: &mut Vec<u8>, n: u64) -> Result<(), AllocError>
+pub fn put_number(out: &mut Vec<u8>, n: u64) -> Result<(), AllocError>
     ensures { OnOk result (out.new.items ≡ out.old.items ++ decimal n) }
 {
     let mut digits = [0; 20];
@@ -80,45 +82,86 @@ fn put_misfit(out: &mut Vec<u8>, misfit: Misfit) -> Result<(), AllocError>
             put_place(out, place, b" is missing, which must be ")?;
             put_kind(out, kind)
         }
-        Misfit::Surplus { place } => put_place(
+        Misfit::Surplus { place } => put_place(out, place, b" is one too many"),
+    }
+}
+
+/// Appends what is wrong with ports.
+#[tactic(auto, unfolding(crate::specs::Texts::ports_text))]
+fn put_ports(out: &mut Vec<u8>, fault: PortsFault) -> Result<(), AllocError>
+    ensures { OnOk result (out.new.items ≡ out.old.items ++ spec.ports_text fault) }
+{
+    match fault {
+        PortsFault::NotAbove => put(out, b"the second port isn't above the first"),
+        PortsFault::NotOdd => put(
             out,
-            place,
-            b" can't stand there: it isn't of the form, stands there twice, or late",
+            b"the difference of the two ports isn't odd: a range has an even number of ports",
+        ),
+        PortsFault::Missing => put(out, b"no port stands behind it: 1 to 64 must"),
+        PortsFault::Many => put(out, b"more than 64 ports stand behind it"),
+        PortsFault::NotPort { place } => {
+            put_place(out, place, b" isn't ")?;
+            put_range(out, 1, 65535)
+        }
+        PortsFault::NotAscending => put(
+            out,
+            b"its ports don't ascend: each must be above the one before",
         ),
     }
 }
 
-/// What of ports is asked.
-#[tactic(auto, unfolding(crate::specs::Texts::ports_text))]
-fn ports_text(verb: Verb) -> &'static [u8]
-    ensures { result.now ≡ spec.ports_text verb }
+/// Appends a text, the number of a line, and a text.
+fn put_at_line(out: &mut Vec<u8>, front: &[u8], line: u64, behind: &[u8]) -> Result<(), AllocError>
+    ensures { OnOk result (out.new.items ≡ out.old.items ++ spec.at_line front.now line behind.now) }
 {
-    match verb {
-        Verb::Range => b"the second port isn't above the first, or their difference is even",
-        _ => b"they aren't 1 to 64 ports, from 1 to 65535, each above the one before",
-    }
+    put(out, front)?;
+    put_number(out, line)?;
+    put(out, behind)
 }
 
-/// What of a line's place is asked.
+/// Appends why a line can't stand where it does.
 #[tactic(auto, unfolding(crate::specs::Texts::place_text))]
-fn place_text(verb: Verb) -> &'static [u8]
-    ensures { result.now ≡ spec.place_text verb }
+fn put_misplace(out: &mut Vec<u8>, misplace: Misplace) -> Result<(), AllocError>
+    ensures { OnOk result (out.new.items ≡ out.old.items ++ spec.place_text misplace) }
 {
-    match verb {
-        Verb::Table
-        | Verb::Range
-        | Verb::Reserved
-        | Verb::Seed
-        | Verb::Offset
-        | Verb::TimeWaitReuse => b"it stands behind a line script, or behind a line of its kind",
-        Verb::Script => b"its number isn't the next: sections are numbered 1, 2, 3 and so on",
-        Verb::Look | Verb::Packets =>
-            b"it stands before the first line script, or in a race, which has no such line",
-        Verb::Socket =>
-            b"it stands before the first line script, or its section has given its label before",
-        Verb::Accept | Verb::Syn | Verb::Ack =>
-            b"it stands before the first line script, or its section has given its second label before",
-        _ => b"it stands before the first line script",
+    match misplace {
+        Misplace::Again(line) => put_at_line(
+            out,
+            b"a line of its kind stands before it, line ",
+            line,
+            b": each kind stands once",
+        ),
+        Misplace::Late(line) => put_at_line(
+            out,
+            b"a section begins before it, in line ",
+            line,
+            b": it must stand before the first line script",
+        ),
+        Misplace::NotNext(line) => put_at_line(
+            out,
+            b"its number isn't the next: it must be one more than that of line ",
+            line,
+            b", which begins the section before",
+        ),
+        Misplace::NotFirst => put(
+            out,
+            b"its number isn't 1, which is that of the first section",
+        ),
+        Misplace::Outside => put(
+            out,
+            b"no line script stands before it: a command belongs to the section that such a line begins",
+        ),
+        Misplace::InRace => put(
+            out,
+            b"a race has no such line: all packets that it looks up are those of a capture",
+        ),
+        Misplace::Given(line) => put_at_line(
+            out,
+            b"its section has given its label before, in line ",
+            line,
+            b": a label is given once in a section",
+        ),
+        Misplace::Other => put(out, b"it can't stand there"),
     }
 }
 
@@ -129,9 +172,19 @@ fn put_reason(out: &mut Vec<u8>, reason: Reason) -> Result<(), AllocError>
 {
     match reason {
         Reason::NoVerb => put(out, b"no line begins with its first word"),
+        Reason::Strange => put(
+            out,
+            b"its first word has a byte that no line's first word has: where a capture begins there, a line capture \
+              must stand before it, with its line feed",
+        ),
         Reason::Misfit { misfit, .. } => put_misfit(out, misfit),
-        Reason::Ports { verb } => put(out, ports_text(verb)),
-        Reason::Place { verb } => put(out, place_text(verb)),
+        Reason::Untimely { place, .. } => put_place(
+            out,
+            place,
+            b" names an option that stands there twice, or late: each stands once, in the order of the form",
+        ),
+        Reason::Ports { fault, .. } => put_ports(out, fault),
+        Reason::Place { misplace, .. } => put_misplace(out, misplace),
     }
 }
 
@@ -174,20 +227,29 @@ fn put_form(out: &mut Vec<u8>, verb: Verb) -> Result<(), AllocError>
     put(out, form_text(verb))
 }
 
+/// Appends the verbs.
+#[tactic(auto, unfolding(crate::specs::Texts::verbs_line))]
+fn put_verbs(out: &mut Vec<u8>) -> Result<(), AllocError>
+    ensures { OnOk result (out.new.items ≡ out.old.items ++ spec.verbs_line) }
+{
+    put(
+        out,
+        b"first words: table range reserved seed offset twreuse script capture socket bind listen connect \
+          accept syn ack close drop at reap look packets dump; or # before a comment",
+    )
+}
+
 /// Appends the verbs, or the form of the verb.
 #[tactic(auto, unfolding(crate::specs::Texts::help_text))]
 fn put_help(out: &mut Vec<u8>, reason: Reason) -> Result<(), AllocError>
     ensures { OnOk result (out.new.items ≡ out.old.items ++ spec.help_text reason) }
 {
     match reason {
-        Reason::NoVerb => put(
-            out,
-            b"first words: table range reserved seed offset twreuse script capture socket bind listen connect \
-              accept syn ack close drop at reap look packets dump; or # before a comment",
-        ),
-        Reason::Misfit { verb, .. } | Reason::Ports { verb } | Reason::Place { verb } => put_form(
-            out, verb,
-        ),
+        Reason::NoVerb | Reason::Strange => put_verbs(out),
+        Reason::Misfit { verb, .. }
+        | Reason::Untimely { verb, .. }
+        | Reason::Ports { verb, .. }
+        | Reason::Place { verb, .. } => put_form(out, verb),
     }
 }
 

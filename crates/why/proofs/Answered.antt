@@ -1,6 +1,7 @@
 -- A text has one answer.
-use Rattle.std.proofs.Common.{◌≡◌, ◌≢◌, ◌∙◌, ◌≤◌, ℕ, List, [], length, ap, refl, subst, sym}
+use Rattle.std.proofs.Common.{◌≡◌, ◌⊎◌, ⊎_elim, ◌∙◌, ◌≤◌, ℕ, List, [], length, ap, refl, subst, sym}
 use Rattle.flat_list.specs.Script.{Script}
+use Rattle.capture_reader.specs.declared.flaw.HeadFlaw.{HeadFlaw}
 use Rattle.capture_reader.specs.Header.{HasHeader}
 use Rattle.sock_script.specs.declared.parse.Mode.{Mode}
 use Rattle.sock_script.specs.Words.{lines_of}
@@ -22,20 +23,20 @@ use Rattle.why.specs.Written.{Answers, IsAnswer, IsScriptAnswer, IsEnd, limit, o
 
 module _ (mode : Mode) (bytes : List ℕ) where
   -- a capture that is read isn't refused
-  not_both : IsSound mode bytes → HasBadCapture mode bytes → ⊥
-  not_both sound bad =
-      let same = one_script mode bytes sound.0 bad.0 sound.1 bad.1 in
-      sound.2
-      (subst (λ (s : Script). (capture_bytes s.capture bytes ≢ []) × ¬ (HasHeader (capture_bytes s.capture bytes))) (sym same) (bad.2, bad.3))
+  not_both : (flaw : HeadFlaw) → IsSound mode bytes → HasBadCapture mode bytes flaw → ⊥
+  not_both flaw sound bad =
+      let same : sound.0 ≡ bad.0 = one_script mode bytes sound.0 bad.0 sound.1 bad.1 in
+      let read = subst (λ (s : Script). (capture_bytes s.capture bytes ≡ []) ⊎ HasHeader (capture_bytes s.capture bytes)) same sound.2 in
+      ⊎_elim (λ e. bad.2.some e) (λ h. bad.2.headless h) read
 
   one_script_answer : (a b : Status) (s t : List ℕ) → IsScriptAnswer mode bytes a s → IsScriptAnswer mode bytes b t → a ≡ b
   one_script_answer Done Done s t h k = refl
   one_script_answer Done (BadScript n) s t h k = absurd (none_outside mode (lines_of bytes) n k.2.first (h.0.0, h.0.1))
-  one_script_answer Done BadCapture s t h k = absurd (not_both h.0 k.0)
+  one_script_answer Done BadCapture s t h k = absurd (not_both k.0 h.0 k.1)
   one_script_answer (BadScript n) Done s t h k = absurd (none_outside mode (lines_of bytes) n h.2.first (k.0.0, k.0.1))
   one_script_answer (BadScript m) (BadScript n) s t h k = ap BadScript (one_first mode (lines_of bytes) m n h.2.first k.2.first)
   one_script_answer (BadScript n) BadCapture s t h k = absurd (none_outside mode (lines_of bytes) n h.2.first (k.0.0, k.0.1))
-  one_script_answer BadCapture Done s t h k = absurd (not_both k.0 h.0)
+  one_script_answer BadCapture Done s t h k = absurd (not_both h.0 k.0 h.1)
   one_script_answer BadCapture (BadScript n) s t h k = absurd (none_outside mode (lines_of bytes) n k.2.first (h.0.0, h.0.1))
   one_script_answer BadCapture BadCapture s t h k = refl
   one_script_answer a Usage s t h k = absurd k

@@ -5,9 +5,11 @@
 use Rattle.std.specs.Prelude.{◌≡◌, ◌^◌, ◌≤◌, ◌<◌, ℕ, List, length, codes, Option}
 use Rattle.std.specs.Io.KnownBytes.{Appends}
 use Rattle.inet_io.specs.Ends.{AppendsFront, ReadsWhole}
+use Rattle.capture_reader.specs.declared.flaw.HeadFlaw.{HeadFlaw}
 use Rattle.sock_script.specs.declared.parse.Mode.{Mode}
 use Rattle.refusals.specs.declared.reason.Reason.{Reason}
 use Rattle.refusals.specs.Reasons.{IsRefusedFor, IsSound, HasBadCapture}
+use Rattle.refusals.specs.Captures.{capture_text}
 use Rattle.refusals.specs.Texts.{refusal_text}
 use Rattle.record_reasons.specs.declared.answer.Outcome.{Outcome}
 use Rattle.record_reasons.specs.declared.answer.Outcome.TheVariants as outcomes
@@ -30,17 +32,14 @@ pub record ReadsInput (old new : Option (List ℕ)) (bytes : List ℕ) : Type 0 
 unfoldable pub sound_text : List ℕ
 sound_text = codes "no line is refused, and no capture\n"
 
--- and where the capture is
-unfoldable pub capture_text : List ℕ
-capture_text = codes "bad capture: its first bytes are neither a header of libpcap's format, version 2.4, of Ethernet or raw IP, nor a valid block of pcapng's\n"
-
 -- The answer to these bytes has that status, and this is written: that nothing is refused; or the first line that is,
--- with the reason; or that the capture is.
+-- with the reason; or what is wrong with the capture's first bytes.
 abbrev pub IsScriptAnswer : Mode → List ℕ → Status → List ℕ → Type 0
 IsScriptAnswer mode bytes Done text = IsSound mode bytes × (text ≡ sound_text)
 IsScriptAnswer mode bytes (BadScript n) text =
     (line : List ℕ) × (reason : Reason) × IsRefusedFor mode bytes n line reason × (text ≡ refusal_text n line reason)
-IsScriptAnswer mode bytes BadCapture text = HasBadCapture mode bytes × (text ≡ capture_text)
+IsScriptAnswer mode bytes BadCapture text =
+    (flaw : HeadFlaw) × HasBadCapture mode bytes flaw × (text ≡ capture_text flaw)
 IsScriptAnswer mode bytes _ text = ⊥
 
 -- the status of what a text is that is to be a record

@@ -10,7 +10,7 @@ use crate::status::Status;
 use inet_io::{Failed, ReadEnd, Sink, Source};
 use label_index::LabelSeed;
 use record_reasons::{Explained, Outcome};
-use refusals::{Answer, explain, put_refusal};
+use refusals::{Answer, explain, put_bad_capture, put_refusal};
 use sock_script::Mode;
 use std::alloc::{AllocError, Global};
 
@@ -72,17 +72,6 @@ fn put_sound(out: &mut Vec<u8>) -> Result<(), AllocError>
     out.extend_from_slice(b"no line is refused, and no capture\n")
 }
 
-/// Appends what is written where the capture is refused.
-#[tactic(auto, unfolding(crate::specs::Written::capture_text))]
-fn put_bad_capture(out: &mut Vec<u8>) -> Result<(), AllocError>
-    ensures { OnOk result (out.new.items ≡ out.old.items ++ spec.capture_text) }
-{
-    out.extend_from_slice(
-        b"bad capture: its first bytes are neither a header of libpcap's format, version 2.4, of Ethernet or raw IP, \
-          nor a valid block of pcapng's\n",
-    )
-}
-
 /// The answer to a script, and what is written of it.
 fn script_answer(
     alloc: Global,
@@ -103,8 +92,8 @@ fn script_answer(
             put_refusal(&mut out, &refusal)?;
             Ok((Status::BadScript(refusal.number), out))
         }
-        Answer::BadCapture => {
-            put_bad_capture(&mut out)?;
+        Answer::BadCapture(flaw) => {
+            put_bad_capture(&mut out, flaw)?;
             Ok((Status::BadCapture, out))
         }
     }
