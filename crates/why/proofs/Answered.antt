@@ -35,9 +35,9 @@ module _ (mode : Mode) (bytes : List ℕ) where
   one_script_answer Done BadCapture s t h k = absurd (not_both k.0 h.0 k.1)
   one_script_answer (BadScript n) Done s t h k = absurd (none_outside mode (lines_of bytes) n h.2.first (k.0.0, k.0.1))
   one_script_answer (BadScript m) (BadScript n) s t h k = ap BadScript (one_first mode (lines_of bytes) m n h.2.first k.2.first)
-  one_script_answer (BadScript n) BadCapture s t h k = absurd (none_outside mode (lines_of bytes) n h.2.first (k.0.0, k.0.1))
+  one_script_answer (BadScript n) BadCapture s t h k = absurd (none_outside mode (lines_of bytes) n h.2.first (k.1.0, k.1.1))
   one_script_answer BadCapture Done s t h k = absurd (not_both h.0 k.0 h.1)
-  one_script_answer BadCapture (BadScript n) s t h k = absurd (none_outside mode (lines_of bytes) n k.2.first (h.0.0, h.0.1))
+  one_script_answer BadCapture (BadScript n) s t h k = absurd (none_outside mode (lines_of bytes) n k.2.first (h.1.0, h.1.1))
   one_script_answer BadCapture BadCapture s t h k = refl
   one_script_answer a Usage s t h k = absurd k
   one_script_answer a TooLong s t h k = absurd k
